@@ -1,0 +1,25 @@
+ghost use mathlib.Core.Path.{_≡_};
+ghost use Rattle.drafts.specs.Drawn.{Opened};
+use crate::automaton::Automaton;
+use crate::draft::Draft;
+use crate::faults::SignFault;
+use crate::signs::Signs;
+use kinds::kind::Kind;
+use std::marker::PhantomData;
+
+impl<K: Kind> Draft<K> {
+    // A draft with these signs and no state.
+    pub fn open(signs: &[u8]) -> Result<Draft<K>, SignFault>
+        ensures { λ r. ⌜ Opened (now (signs .entry)) r ⌝ }
+    {
+        let signs = Signs::new(signs)?;
+        Ok(Draft { automaton: Automaton::fresh(signs), kind: PhantomData })
+    }
+
+    // What the draft holds.
+    pub fn automaton(&self) -> &Automaton
+        ensures { λ r. ⌜ now r ≡ now (self .entry) .automaton ⌝ }
+    {
+        &self.automaton
+    }
+}

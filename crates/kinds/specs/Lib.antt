@@ -1,0 +1,4 @@
+pub mod Ors
+pub mod Kinds
+pub mod JoinLaws
+pub mod Delivered

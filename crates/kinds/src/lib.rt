@@ -1,0 +1,3 @@
+// Kinds of value: which byte codes stand for a value, and how two values are joined.
+pub mod kind;
+pub mod delivered;
