@@ -6,6 +6,7 @@ pub mod Questions
 pub mod OneCall
 pub mod SameDraft
 pub mod ShownLaws
+pub mod HeldEqual
 pub mod Kept
 pub mod CallRuns
 pub mod Before

@@ -12,7 +12,7 @@ use lib.Dec.{eqb}
 use lib.Pow.{pow-mono, pow-lt, shr-shr}
 use Rattle.std.proofs.shelf.Tests.{eq-eqb, ne-eqb, cases-lt, cases-eq, both-ways}
 use Rattle.drafts.specs.declared.sets.StateSet.{StateSet}
-use Rattle.drafts.specs.Sets.{has, noStates}
+use Rattle.drafts.specs.Sets.{bit, has, noStates}
 use Rattle.drafts.proofs.Bits.{and-bit, or-bit, own-bit, other-bit, shifted, not-bit32}
 
 -- one bit, as the code reads it
@@ -65,16 +65,18 @@ by-bits (suc k) a b la lb h =
     let z : a % 2 ≡ b % 2 = ap (λ (n : ℕ). n % 2) (sym (div-one a)) ∙ (h 0 (omega arith) ∙ ap (λ (n : ℕ). n % 2) (div-one b)) in
     omega arith
 
+bit-eq : (a b : ℕ) → a < 2 → b < 2 → eqb a 1 ≡ eqb b 1 → a ≡ b
+bit-eq zero zero la lb e = refl
+bit-eq zero (suc zero) la lb e = absurd (both-ways _ (sym e) refl)
+bit-eq (suc zero) zero la lb e = absurd (both-ways _ e refl)
+bit-eq (suc zero) (suc zero) la lb e = refl
+bit-eq zero (suc (suc b)) la lb e = absurd (omega arith)
+bit-eq (suc zero) (suc (suc b)) la lb e = absurd (omega arith)
+bit-eq (suc (suc a)) b la lb e = absurd (omega arith)
+
+pub same-bits : (a b : ℕ) → a < 2 ^ 32 → b < 2 ^ 32 → ((p : ℕ) → bit a p ≡ bit b p) → a ≡ b
+same-bits a b la lb h = by-bits 32 a b la lb (λ p l. bit-eq (a / 2 ^ p % 2) (b / 2 ^ p % 2) (omega arith) (omega arith) (h p))
+
 -- Two sets with the same members are equal.
 pub same-members : (s t : StateSet) → ((p : ℕ) → has s p ≡ has t p) → s ≡ t
-same-members s t h =
-    set-bits s t (by-bits 32 (s .bits) (t .bits) (s .small) (t .small) (λ p l. bit-eq (s .bits / 2 ^ p % 2) (t .bits / 2 ^ p % 2) (omega arith) (omega arith) (h p)))
-  where
-    bit-eq : (a b : ℕ) → a < 2 → b < 2 → eqb a 1 ≡ eqb b 1 → a ≡ b
-    bit-eq zero zero la lb e = refl
-    bit-eq zero (suc zero) la lb e = absurd (both-ways _ (sym e) refl)
-    bit-eq (suc zero) zero la lb e = absurd (both-ways _ e refl)
-    bit-eq (suc zero) (suc zero) la lb e = refl
-    bit-eq zero (suc (suc b)) la lb e = absurd (omega arith)
-    bit-eq (suc zero) (suc (suc b)) la lb e = absurd (omega arith)
-    bit-eq (suc (suc a)) b la lb e = absurd (omega arith)
+same-members s t h = set-bits s t (same-bits (s .bits) (t .bits) (s .small) (t .small) h)

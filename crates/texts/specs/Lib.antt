@@ -1,4 +1,6 @@
 pub mod Faults
+pub mod Any
 pub mod Grammar
 pub mod Reading
+pub mod Gives
 pub mod TextLaws

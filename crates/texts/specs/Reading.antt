@@ -53,6 +53,10 @@ placeOf b (x ∷ xs) = cond (eqb x b) 0 (suc (placeOf b xs))
 abbrev pub letterIn : List ℕ → List ℕ → ℕ
 letterIn signs f = placeOf (getD f 0 0) signs
 
+-- the field is one listed sign
+abbrev pub listed : List ℕ → List ℕ → Bool
+listed signs f = eqb (length f) 1 && ltb (letterIn signs f) (length signs)
+
 abbrev pub numberIn : List ℕ → ℕ
 numberIn f = value 10 f
 
@@ -78,7 +82,7 @@ unlisted (Some x) = None
 -- why a field does not have its form
 abbrev pub fieldFault : List ℕ → Form → List ℕ → Option FieldFault
 fieldFault signs number f = asField (faultIn (numberOf f))
-fieldFault signs oneSign f = cond (eqb (length f) 1 && ltb (letterIn signs f) (length signs)) None (Some NotListed)
+fieldFault signs oneSign f = cond (listed signs f) None (Some NotListed)
 fieldFault signs kindLetter f = unlisted (kindIn f)
 fieldFault signs anySigns f = None
 

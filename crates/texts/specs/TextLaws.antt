@@ -3,8 +3,8 @@
 use mathlib.Core.Path.{_≡_}
 use mathlib.Core.Logic.{_↔_}
 use mathlib.Core.List.{List}
-use Prim.Native.Nat.{ℕ, _≤_, _<_}
-use lib.ListN.{length, getD}
+use Prim.Native.Nat.{ℕ, _≤_}
+use lib.ListN.{length}
 use Rattle.std.specs.declared.option.Option.the-variants.{None}
 use Rattle.std.specs.declared.result.Result.the-variants.{Ok}
 use Rattle.drafts.specs.declared.calls.Call.{Call}
@@ -32,6 +32,5 @@ pub record TextLaws : Type 0 where
   pub reads : (text : List ℕ) (k : KindLetter) (d : DraftModel) → (readText text ≡ Ok (k, d)) ↔ Spells text k d
   -- a draft that calls drew is read back from what is written of it, within the text limit
   pub back : (k : KindLetter) (signs : List ℕ) (calls : List Call) → signFault signs ≡ None
-      → ((i : ℕ) → getD (afterAll (kindOf k) (fresh signs) calls .values) i 0 < 256)
       → length (written k (afterAll (kindOf k) (fresh signs) calls)) ≤ 32768
       → readText (written k (afterAll (kindOf k) (fresh signs) calls)) ≡ Ok (k, afterAll (kindOf k) (fresh signs) calls)

@@ -1,3 +1,7 @@
 // Draft text: a draft as lines of fields, read and written.
+pub mod any;
 pub mod faults;
+pub mod laws;
 pub mod letters;
+pub mod reading;
+pub mod records;

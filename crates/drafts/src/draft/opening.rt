@@ -1,5 +1,7 @@
 ghost use mathlib.Core.Path.{_≡_};
-ghost use Rattle.drafts.specs.Drawn.{Opened};
+ghost use Rattle.drafts.specs.Drafts.{fresh};
+ghost use Rattle.drafts.specs.Drawn.{drawn, Opened};
+ghost use Rattle.drafts.specs.Shown.{signList};
 use crate::automaton::Automaton;
 use crate::draft::Draft;
 use crate::faults::SignFault;
@@ -13,7 +15,14 @@ impl<K: Kind> Draft<K> {
         ensures { λ r. ⌜ Opened (now (signs .entry)) r ⌝ }
     {
         let signs = Signs::new(signs)?;
-        Ok(Draft { automaton: Automaton::fresh(signs), kind: PhantomData })
+        Ok(Draft::fresh(signs))
+    }
+
+    // A draft with signs that are acceptable already, and no state.
+    pub fn fresh(signs: Signs) -> Draft<K>
+        ensures { λ r. ⌜ drawn r ≡ fresh (signList signs) ⌝ }
+    {
+        Draft { automaton: Automaton::fresh(signs), kind: PhantomData }
     }
 
     // What the draft holds.

@@ -1,0 +1,10 @@
+pub mod Places
+pub mod Counts
+pub mod Lines
+pub mod Texts
+pub mod Spelled
+pub mod Drawn
+pub mod Writable
+pub mod TextLaws
+pub mod Outcomes
+pub mod Turns
