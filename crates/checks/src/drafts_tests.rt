@@ -11,12 +11,12 @@ use drafts::faults::CallFaultPartialEq;
 use drafts::faults::SignFault;
 use drafts::faults::SignFaultDebug;
 use drafts::faults::SignFaultPartialEq;
-use kinds::delivered::M;
-use kinds::delivered::MKind;
-use kinds::delivered::R;
-use kinds::delivered::RKind;
-use kinds::delivered::Y;
-use kinds::delivered::YKind;
+use kinds::marks::M;
+use kinds::marks::MKind;
+use kinds::rank::R;
+use kinds::rank::RKind;
+use kinds::yes_no::Y;
+use kinds::yes_no::YKind;
 use std::test::*;
 
 // The fault of opening with these signs.
@@ -83,9 +83,17 @@ fn a_list_of_calls(rt: LibcRuntime) -> Result<(), Fail> {
         Call::Enter(0),
         Call::Grow(5),
         Call::Enter(0),
-        Call::Link { from: 0, letter: 0, to: 0 },
+        Call::Link {
+            from: 0,
+            letter: 0,
+            to: 0,
+        },
         Call::Rate { state: 0, value: 9 },
-        Call::Unlink { from: 0, letter: 0, to: 0 },
+        Call::Unlink {
+            from: 0,
+            letter: 0,
+            to: 0,
+        },
         Call::Leave(0),
         Call::Leave(0),
     ];

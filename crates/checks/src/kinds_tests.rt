@@ -2,12 +2,12 @@ use crate::further::Gaps;
 use crate::further::GapsKind;
 use crate::further::Nothing;
 use crate::further::NothingKind;
-use kinds::delivered::M;
-use kinds::delivered::MKind;
-use kinds::delivered::R;
-use kinds::delivered::RKind;
-use kinds::delivered::Y;
-use kinds::delivered::YKind;
+use kinds::marks::M;
+use kinds::marks::MKind;
+use kinds::rank::R;
+use kinds::rank::RKind;
+use kinds::yes_no::Y;
+use kinds::yes_no::YKind;
 use kinds::kind::Kind;
 use std::test::*;
 

@@ -1,8 +1,7 @@
 // Tests of the libraries, and what they are tried on.
-pub mod further;
-
 #[cfg(test)]
 mod drafts_tests;
+pub mod further;
 #[cfg(test)]
 mod kinds_tests;
 #[cfg(test)]

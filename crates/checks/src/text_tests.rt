@@ -8,13 +8,23 @@ use texts::reading::read_draft;
 // What is told of a text; all 0 where it is read.
 fn told(text: &[u8]) -> Refusal {
     match read_draft(text) {
-        Ok(_) => Refusal { number: 0, line: 0, field: 0, inner: 0 },
+        Ok(_) => Refusal {
+            number: 0,
+            line: 0,
+            field: 0,
+            inner: 0,
+        },
         Err(fault) => fault.refusal(),
     }
 }
 
 fn refusal(number: u8, line: usize, field: u8, inner: u8) -> Refusal {
-    Refusal { number, line, field, inner }
+    Refusal {
+        number,
+        line,
+        field,
+        inner,
+    }
 }
 
 #[test]
@@ -22,7 +32,10 @@ fn whole_texts() -> Result<(), Fail> {
     check_eq(told(b""), refusal(21, 0, 0, 0))?;
     check_eq(told(b"D\tY\tab"), refusal(21, 0, 0, 0))?;
     check_eq(told(b"D\tY\tab\n"), refusal(0, 0, 0, 0))?;
-    check_eq(told(b"D\tR\tab\nS\t255\nS\t0\nE\t1\nL\t0\tb\t1\n"), refusal(0, 0, 0, 0))?;
+    check_eq(
+        told(b"D\tR\tab\nS\t255\nS\t0\nE\t1\nL\t0\tb\t1\n"),
+        refusal(0, 0, 0, 0),
+    )?;
     check_eq(told(b"D\tM\tab\nS\t3\n"), refusal(0, 0, 0, 0))
 }
 
@@ -60,7 +73,10 @@ fn fields() -> Result<(), Fail> {
     check_eq(told(b"D\tR\tab\nS\t00\n"), refusal(24, 2, 2, 3))?;
     check_eq(told(b"D\tR\tab\nS\t255\n"), refusal(0, 0, 0, 0))?;
     check_eq(told(b"D\tR\tab\nS\t256\n"), refusal(24, 2, 2, 4))?;
-    check_eq(told(b"D\tR\tab\nS\t99999999999999999999999\n"), refusal(24, 2, 2, 4))
+    check_eq(
+        told(b"D\tR\tab\nS\t99999999999999999999999\n"),
+        refusal(24, 2, 2, 4),
+    )
 }
 
 #[test]
@@ -84,7 +100,10 @@ fn what_the_draft_refuses() -> Result<(), Fail> {
     check_eq(told(b"D\tY\tab\nE\t0\n"), refusal(25, 2, 0, 3))?;
     check_eq(told(b"D\tY\tab\nS\t1\nE\t0\nE\t0\n"), refusal(25, 4, 0, 7))?;
     check_eq(told(b"D\tY\tab\nS\t1\nL\t0\ta\t1\n"), refusal(25, 3, 0, 3))?;
-    check_eq(told(b"D\tY\tab\nS\t1\nL\t0\ta\t0\nL\t0\ta\t0\n"), refusal(25, 4, 0, 7))
+    check_eq(
+        told(b"D\tY\tab\nS\t1\nL\t0\ta\t0\nL\t0\ta\t0\n"),
+        refusal(25, 4, 0, 7),
+    )
 }
 
 // A draft text with this many states.
@@ -98,8 +117,14 @@ fn states(heap: Global, count: usize) -> Result<Vec<u8>, Fail> {
 
 #[test]
 fn states_at_their_edge(rt: LibcRuntime) -> Result<(), Fail> {
-    check_eq(told(states(rt.alloc(), 32)?.as_slice()), refusal(0, 0, 0, 0))?;
-    check_eq(told(states(rt.alloc(), 33)?.as_slice()), refusal(25, 34, 0, 6))
+    check_eq(
+        told(states(rt.alloc(), 32)?.as_slice()),
+        refusal(0, 0, 0, 0),
+    )?;
+    check_eq(
+        told(states(rt.alloc(), 33)?.as_slice()),
+        refusal(25, 34, 0, 6),
+    )
 }
 
 #[test]

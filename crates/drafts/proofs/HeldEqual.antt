@@ -25,9 +25,10 @@ use Rattle.drafts.proofs.ShownLaws.{sign-count, shown-size}
 filled : (m n : ℕ) (xs ys : List ℕ) → length xs ≡ m → length ys ≡ m → take n xs ≡ take n ys → BlankPast xs n → BlankPast ys n → xs ≡ ys
 filled m n xs ys lx ly e bx by =
     ext-getD 0 xs ys (lx ∙ sym ly)
-      (λ k l. elim (cases-lt k n) [
-        inl low ↦ sym (getD-take n xs k 0 low) ∙ (ap (λ (zs : List ℕ). getD zs k 0) e ∙ getD-take n ys k 0 low)
-      | inr past ↦ bx k past ∙ sym (by k past) ])
+    (λ k l. elim (cases-lt k n) [
+      | inl low ↦ sym (getD-take n xs k 0 low) ∙ (ap (λ (zs : List ℕ). getD zs k 0) e ∙ getD-take n ys k 0 low)
+      | inr past ↦ bx k past ∙ sym (by k past)
+    ])
 
 signs-by : (s t : Signs) → s .bytes ≡ t .bytes → s .count ≡ t .count → s ≡ t
 signs-by s t b n = λ i. record {
@@ -46,7 +47,7 @@ pub same-signs : (s t : Signs) → signList s ≡ signList t → s ≡ t
 same-signs s t e =
     let n : s .count ≡ t .count = sym (sign-count s) ∙ (ap length e ∙ sign-count t) in
     signs-by s t
-      (filled 16 (s .count) (s .bytes) (t .bytes) (s .wide) (t .wide) (e ∙ ap (λ (k : ℕ). take k (t .bytes)) (sym n)) (s .blank) (λ k l. t .blank k (omega arith))) n
+    (filled 16 (s .count) (s .bytes) (t .bytes) (s .wide) (t .wide) (e ∙ ap (λ (k : ℕ). take k (t .bytes)) (sym n)) (s .blank) (λ k l. t .blank k (omega arith))) n
 
 automaton-by : (d e : Automaton) → d .signs ≡ e .signs → d .count ≡ e .count → d .codes ≡ e .codes → d .entries ≡ e .entries → d .arrows ≡ e .arrows → d ≡ e
 automaton-by d e s n c m r = λ i. record {
@@ -72,15 +73,15 @@ automaton-by d e s n c m r = λ i. record {
 same-rows : (d e : Automaton) → ((p a q : ℕ) → bit (endsOf (d .arrows) p a) q ≡ bit (endsOf (e .arrows) p a) q) → d .arrows ≡ e .arrows
 same-rows d e h =
     ext-getD [] (d .arrows) (e .arrows) (d .rows ∙ sym (e .rows))
-      (λ p l. let lp : p < length (e .arrows) = omega (arith, d .rows, e .rows) in
-        ext-getD 0 (getD (d .arrows) p []) (getD (e .arrows) p []) (d .columns p l ∙ sym (e .columns p lp))
-          (λ a la. same-bits (endsOf (d .arrows) p a) (endsOf (e .arrows) p a) (d .bits p a) (e .bits p a) (h p a)))
+    (λ p l. let lp : p < length (e .arrows) = omega (arith, d .rows, e .rows) in
+    ext-getD 0 (getD (d .arrows) p []) (getD (e .arrows) p []) (d .columns p l ∙ sym (e .columns p lp))
+    (λ a la. same-bits (endsOf (d .arrows) p a) (endsOf (e .arrows) p a) (d .bits p a) (e .bits p a) (h p a)))
 
 pub same-held : (d e : Automaton) → shown d ≡ shown e → d ≡ e
 same-held d e h =
     let n : d .count ≡ e .count = sym (shown-size d) ∙ (ap size h ∙ shown-size e) in
     automaton-by d e (same-signs (d .signs) (e .signs) (ap (λ (m : DraftModel). m .signs) h)) n
-      (filled 32 (d .count) (d .codes) (e .codes) (d .wide) (e .wide)
-        (ap (λ (m : DraftModel). m .values) h ∙ ap (λ (k : ℕ). take k (e .codes)) (sym n)) (d .blank) (λ k l. e .blank k (omega arith)))
-      (same-members (d .entries) (e .entries) (λ p. ap (λ (m : DraftModel). m .entry p) h))
-      (same-rows d e (λ p a q. ap (λ (m : DraftModel). m .arrow p a q) h))
+    (filled 32 (d .count) (d .codes) (e .codes) (d .wide) (e .wide)
+    (ap (λ (m : DraftModel). m .values) h ∙ ap (λ (k : ℕ). take k (e .codes)) (sym n)) (d .blank) (λ k l. e .blank k (omega arith)))
+    (same-members (d .entries) (e .entries) (λ p. ap (λ (m : DraftModel). m .entry p) h))
+    (same-rows d e (λ p a q. ap (λ (m : DraftModel). m .arrow p a q) h))

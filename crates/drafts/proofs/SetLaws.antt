@@ -35,24 +35,27 @@ has-none p = ne-eqb (0 / 2 ^ p % 2) 1 (λ e. omega (arith, zero-div (2 ^ p)))
 pub put-in : (s p m q : ℕ) → m ≡ 2 ^ p → eqb (bitOr s m / 2 ^ q % 2) 1 ≡ cond (eqb q p) true (eqb (s / 2 ^ q % 2) 1)
 put-in s p m q e = rw e
     (elim (cases-eq q p) [
-      inl same ↦ rw (same, eq-eqb p p refl) (eq-eqb (bitOr s (2 ^ p) / 2 ^ p % 2) 1 (omega (arith, or-bit s (2 ^ p) p, own-bit p)))
-    | inr ne ↦ rw (ne-eqb q p ne)
-        (let f : bitOr s (2 ^ p) / 2 ^ q % 2 ≡ s / 2 ^ q % 2 = omega (arith, or-bit s (2 ^ p) q, other-bit p q ne) in ap (λ (b : ℕ). eqb b 1) f) ])
+      | inl same ↦ rw (same, eq-eqb p p refl) (eq-eqb (bitOr s (2 ^ p) / 2 ^ p % 2) 1 (omega (arith, or-bit s (2 ^ p) p, own-bit p)))
+      | inr ne ↦ rw (ne-eqb q p ne)
+          (let f : bitOr s (2 ^ p) / 2 ^ q % 2 ≡ s / 2 ^ q % 2 = omega (arith, or-bit s (2 ^ p) q, other-bit p q ne) in ap (λ (b : ℕ). eqb b 1) f)
+    ])
 
 -- the bits of s & !2 ^ p
 pub put-out : (s p m q : ℕ) → s < 2 ^ 32 → p < 32 → m ≡ 2 ^ p → eqb (bitAnd s (4294967295 - m) / 2 ^ q % 2) 1 ≡ cond (eqb q p) false (eqb (s / 2 ^ q % 2) 1)
 put-out s p m q small l e = rw e
     (let w : 2 ^ p < 2 ^ 32 = pow-lt l in
-     elim (cases-eq q p) [
-       inl same ↦ rw (same, eq-eqb p p refl)
-         (let f : bitAnd s (4294967295 - 2 ^ p) / 2 ^ p % 2 ≡ 0 = omega (arith, and-bit s (4294967295 - 2 ^ p) p, not-bit32 p (2 ^ p) l w, own-bit p) in
+    elim (cases-eq q p) [
+      | inl same ↦ rw (same, eq-eqb p p refl)
+          (let f : bitAnd s (4294967295 - 2 ^ p) / 2 ^ p % 2 ≡ 0 = omega (arith, and-bit s (4294967295 - 2 ^ p) p, not-bit32 p (2 ^ p) l w, own-bit p) in
           ap (λ (b : ℕ). eqb b 1) f)
-     | inr ne ↦ rw (ne-eqb q p ne)
-         (let f : bitAnd s (4294967295 - 2 ^ p) / 2 ^ q % 2 ≡ s / 2 ^ q % 2 =
-            elim (cases-lt q 32) [
-              inl lq ↦ omega (arith, and-bit s (4294967295 - 2 ^ p) q, not-bit32 q (2 ^ p) lq w, other-bit p q ne)
-            | inr g ↦ (let z : s / 2 ^ q ≡ 0 = div-eq-of-lt (let k : 2 ^ 32 ≤ 2 ^ q = pow-mono g in omega arith) in omega (arith, and-bit s (4294967295 - 2 ^ p) q)) ] in
-          ap (λ (b : ℕ). eqb b 1) f) ])
+      | inr ne ↦ rw (ne-eqb q p ne)
+          (let f : bitAnd s (4294967295 - 2 ^ p) / 2 ^ q % 2 ≡ s / 2 ^ q % 2 =
+          elim (cases-lt q 32) [
+            | inl lq ↦ omega (arith, and-bit s (4294967295 - 2 ^ p) q, not-bit32 q (2 ^ p) lq w, other-bit p q ne)
+            | inr g ↦ (let z : s / 2 ^ q ≡ 0 = div-eq-of-lt (let k : 2 ^ 32 ≤ 2 ^ q = pow-mono g in omega arith) in omega (arith, and-bit s (4294967295 - 2 ^ p) q))
+          ] in
+          ap (λ (b : ℕ). eqb b 1) f)
+    ])
 
 -- A number below 2 ^ k is known by its lowest k bits.
 by-bits : (k a b : ℕ) → a < 2 ^ k → b < 2 ^ k → ((p : ℕ) → p < k → a / 2 ^ p % 2 ≡ b / 2 ^ p % 2) → a ≡ b
@@ -61,7 +64,7 @@ by-bits (suc k) a b la lb h =
     let e = pow-suc 2 k in
     let half : (n p : ℕ) → n / 2 / 2 ^ p ≡ n / 2 ^ suc p = λ n p. shr-shr n 1 p ∙ ap (λ (m : ℕ). n / 2 ^ m) (omega arith) in
     let r : a / 2 ≡ b / 2 = by-bits k (a / 2) (b / 2) (omega arith) (omega arith)
-          (λ p l. ap (λ (n : ℕ). n % 2) (half a p) ∙ (h (suc p) (omega arith) ∙ ap (λ (n : ℕ). n % 2) (sym (half b p)))) in
+    (λ p l. ap (λ (n : ℕ). n % 2) (half a p) ∙ (h (suc p) (omega arith) ∙ ap (λ (n : ℕ). n % 2) (sym (half b p)))) in
     let z : a % 2 ≡ b % 2 = ap (λ (n : ℕ). n % 2) (sym (div-one a)) ∙ (h 0 (omega arith) ∙ ap (λ (n : ℕ). n % 2) (div-one b)) in
     omega arith
 

@@ -42,7 +42,7 @@ module _ (d : Automaton) where
   -- one state more
   pub added-state : (code : ℕ) → d .count < 32
       → withValues (shown d) (take (d .count + 1) (set (d .codes) (d .count) code))
-        ≡ cond (ltb (size (shown d)) 32) (withValues (shown d) (shown d .values ++ code ∷ [])) (shown d)
+      ≡ cond (ltb (size (shown d)) 32) (withValues (shown d) (shown d .values ++ code ∷ [])) (shown d)
   added-state code l =
       ap (withValues (shown d)) (take-more-set (d .codes) (d .count) code (omega (arith, d .wide)))
       ∙ sym (cond-true (ltb (size (shown d)) 32) _ _ (lt-ltb (size (shown d)) 32 (rw shown-size l)))
@@ -54,12 +54,13 @@ module _ (d : Automaton) where
       take-set-below : (n : ℕ) (xs : List ℕ) (i y : ℕ) → i < n → take n (set xs i y) ≡ set (take n xs) i y
       take-set-below n xs i y h =
           same-lists _ _ (simp (length-take, length-set) refl)
-            (λ k e lk.
-              let lt : k < n = omega (arith, simp (length-take, length-set) at lk) in
-              getD-take n (set xs i y) k e lt ∙ elim (cases-eq k i) [
-                inl same ↦ (let inside : i < length xs = omega (arith, simp (length-take, length-set) at lk) in
-                  rw same (getD-set-same xs i y e inside ∙ sym (getD-set-same (take n xs) i y e (simp length-take (omega arith)))))
-              | inr ne ↦ getD-set-other xs i k y e ne ∙ (sym (getD-take n xs k e lt) ∙ sym (getD-set-other (take n xs) i k y e ne)) ])
+          (λ k e lk.
+          let lt : k < n = omega (arith, simp (length-take, length-set) at lk) in
+          getD-take n (set xs i y) k e lt ∙ elim (cases-eq k i) [
+            | inl same ↦ (let inside : i < length xs = omega (arith, simp (length-take, length-set) at lk) in
+                rw same (getD-set-same xs i y e inside ∙ sym (getD-set-same (take n xs) i y e (simp length-take (omega arith)))))
+            | inr ne ↦ getD-set-other xs i k y e ne ∙ (sym (getD-take n xs k e lt) ∙ sym (getD-set-other (take n xs) i k y e ne))
+          ])
 
   pub same-code : (p code : ℕ) → d .count ≤ p → shown d ≡ withValues (shown d) (set (shown d .values) p code)
   same-code p code l = ap (withValues (shown d)) (sym (set-past (shown d .values) p code (rw shown-size l)))
@@ -74,19 +75,21 @@ module _ (d : Automaton) where
       let row : p < length (d .arrows) = omega (arith, d .rows, d .few) in
       let column : a < length (getD (d .arrows) p []) = omega (arith, d .columns p row, d .signs .few) in
       let yes : (isState (shown d) p && isState (shown d) q && isLetter (shown d) a) ≡ true =
-            rw (is-state p lp, is-state q lq) (lt-ltb a (letters (shown d)) (rw shown-letters la)) in
+      rw (is-state p lp, is-state q lq) (lt-ltb a (letters (shown d)) (rw shown-letters la)) in
       same-draft e (withArrow (shown d) p a q on) s w (λ k. ap (λ (f : ℕ → Bool). f k) n)
-        (λ p′ a′ q′. r p′ a′ q′ ∙ written-bit (d .arrows) p a q v on row column put p′ a′ q′)
+      (λ p′ a′ q′. r p′ a′ q′ ∙ written-bit (d .arrows) p a q v on row column put p′ a′ q′)
       ∙ sym (cond-true _ (withArrow (shown d) p a q on) (shown d) yes)
 
 -- bytes and blanks after a write
 pub set-bytes : (xs : List ℕ) (i y : ℕ) → y < 256 → Bytes xs → Bytes (set xs i y)
 set-bytes xs i y l h k =
     elim (cases-eq k i) [
-      inl e ↦ rw e (elim (cases-lt i (length xs)) [
-        inl inside ↦ rw (getD-set-same xs i y 0 inside) l
-      | inr past ↦ rw (set-past xs i y past) (h i) ])
-    | inr ne ↦ rw (getD-set-other xs i k y 0 ne) (h k) ]
+      | inl e ↦ rw e (elim (cases-lt i (length xs)) [
+        | inl inside ↦ rw (getD-set-same xs i y 0 inside) l
+        | inr past ↦ rw (set-past xs i y past) (h i)
+      ])
+      | inr ne ↦ rw (getD-set-other xs i k y 0 ne) (h k)
+    ]
 
 pub set-blank : (xs : List ℕ) (i y n : ℕ) → i < n → BlankPast xs n → BlankPast (set xs i y) n
 set-blank xs i y n l h k past = let ne : k ≡ i → ⊥ = λ e. omega arith in getD-set-other xs i k y 0 ne ∙ h k past

@@ -33,9 +33,9 @@ Good xs k = ((33 ≤ getD xs k 0) × (getD xs k 0 ≤ 126)) × ((j : ℕ) → j 
 decides-distinct : (xs : List ℕ) → Decides (distinct xs) ((k : ℕ) → k < length xs → Good xs k)
 decides-distinct xs =
     decides-every _ (Good xs)
-      (λ k. decides-and _ _ (decides-and _ _ (decides-leb 33 (getD xs k 0)) (decides-leb (getD xs k 0) 126))
-        (decides-every _ (λ j. getD xs j 0 ≡ getD xs k 0 → ⊥) (λ j. decides-not _ (decides-eqb (getD xs j 0) (getD xs k 0))) k))
-      (length xs)
+    (λ k. decides-and _ _ (decides-and _ _ (decides-leb 33 (getD xs k 0)) (decides-leb (getD xs k 0) 126))
+    (decides-every _ (λ j. getD xs j 0 ≡ getD xs k 0 → ⊥) (λ j. decides-not _ (decides-eqb (getD xs j 0) (getD xs k 0))) k))
+    (length xs)
 
 pub distinct-from : (xs : List ℕ) → Visible xs (length xs) → Apart xs (length xs) → distinct xs ≡ true
 distinct-from xs v a = decides-distinct xs .1 (λ k l. (v k l, a k l))
@@ -56,17 +56,20 @@ fault-count xs h =
 pub fault-byte : (xs : List ℕ) → 1 ≤ length xs → length xs ≤ 16 → (k : ℕ) → k < length xs → (Good xs k → ⊥) → signFault xs ≡ Some Byte
 fault-byte xs some few k l h =
     elim (cases-bool (distinct xs)) [
-      inl t ↦ absurd (h (decides-distinct xs .0 t k l))
-    | inr f ↦ rw (decides-counted xs .1 (some, few), f) refl ]
+      | inl t ↦ absurd (h (decides-distinct xs .0 t k l))
+      | inr f ↦ rw (decides-counted xs .1 (some, few), f) refl
+    ]
 
 -- what no fault says
 pub accepted-parts : (xs : List ℕ) → signFault xs ≡ None → (counted xs ≡ true) × (distinct xs ≡ true)
 accepted-parts xs e =
     elim (cases-bool (counted xs)) [
-      inl t ↦ elim (cases-bool (distinct xs)) [
-        inl u ↦ (t, u)
-      | inr f ↦ absurd (let z : _≡_ {A = ℕ} 0 1 = (let w : signFault xs ≡ Some Byte = rw (t, f) refl in cc) in omega arith) ]
-    | inr f ↦ absurd (let z : _≡_ {A = ℕ} 0 1 = (let w : signFault xs ≡ Some Count = rw f refl in cc) in omega arith) ]
+      | inl t ↦ elim (cases-bool (distinct xs)) [
+        | inl u ↦ (t, u)
+        | inr f ↦ absurd (let z : _≡_ {A = ℕ} 0 1 = (let w : signFault xs ≡ Some Byte = rw (t, f) refl in cc) in omega arith)
+      ]
+      | inr f ↦ absurd (let z : _≡_ {A = ℕ} 0 1 = (let w : signFault xs ≡ Some Count = rw f refl in cc) in omega arith)
+    ]
 
 -- the signs in 16 places
 abbrev pub padded : List ℕ → List ℕ

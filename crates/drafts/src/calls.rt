@@ -4,15 +4,26 @@ pub enum Call {
     // add a state with a value
     Grow(u8),
     // add an arrow
-    Link { from: usize, letter: usize, to: usize },
+    Link {
+        from: usize,
+        letter: usize,
+        to: usize,
+    },
     // remove an arrow
-    Unlink { from: usize, letter: usize, to: usize },
+    Unlink {
+        from: usize,
+        letter: usize,
+        to: usize,
+    },
     // make a state an entry state
     Enter(usize),
     // end that
     Leave(usize),
     // replace a state's value
-    Rate { state: usize, value: u8 },
+    Rate {
+        state: usize,
+        value: u8,
+    },
 }
 
 // What an accepted call answers.

@@ -22,9 +22,9 @@ pub or-assoc : (a b c : ℕ) → bitOr (bitOr a b) c ≡ bitOr a (bitOr b c)
 or-assoc =
     let two : (n : ℕ) → n % 2 < 2 = λ n. omega arith in
     bin-ind (λ (n : ℕ). (b c : ℕ) → bitOr (bitOr n b) c ≡ bitOr n (bitOr b c)) (λ b c. refl)
-      (λ n ih b c. by-digits _ _
-        (or-shr (bitOr n b) c 1 ∙ ap (λ (x : ℕ). bitOr x (c / 2)) (or-shr n b 1) ∙ ih (b / 2) (c / 2)
-          ∙ sym (or-shr n (bitOr b c) 1 ∙ ap (bitOr (n / 2)) (or-shr b c 1)))
-        (or-mod (bitOr n b) c 1 ∙ ap (λ (x : ℕ). bitOr x (c % 2)) (or-mod n b 1)
-          ∙ digit-assoc (n % 2) (b % 2) (c % 2) (two n) (two b) (two c)
-          ∙ sym (or-mod n (bitOr b c) 1 ∙ ap (bitOr (n % 2)) (or-mod b c 1))))
+    (λ n ih b c. by-digits _ _
+    (or-shr (bitOr n b) c 1 ∙ ap (λ (x : ℕ). bitOr x (c / 2)) (or-shr n b 1) ∙ ih (b / 2) (c / 2)
+    ∙ sym (or-shr n (bitOr b c) 1 ∙ ap (bitOr (n / 2)) (or-shr b c 1)))
+    (or-mod (bitOr n b) c 1 ∙ ap (λ (x : ℕ). bitOr x (c % 2)) (or-mod n b 1)
+    ∙ digit-assoc (n % 2) (b % 2) (c % 2) (two n) (two b) (two c)
+    ∙ sym (or-mod n (bitOr b c) 1 ∙ ap (bitOr (n % 2)) (or-mod b c 1))))

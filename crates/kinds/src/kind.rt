@@ -23,14 +23,18 @@ pub trait Kind {
     fn none() -> u8
         ensures { λ r. ⌜ r ≡ model .none ⌝ }
     {
-        0
+        0u8
     }
 
     // `code` where it is admitted, and else none: the join of this one code.
     fn clean(code: u8) -> u8
         ensures { λ r. ⌜ r ≡ clean model code ⌝ }
     {
-        if Self::admits(code) { code } else { Self::none() }
+        if Self::admits(code) {
+            code
+        } else {
+            Self::none()
+        }
     }
 
     // The join of any two codes, each of which counts as none where it is not admitted.

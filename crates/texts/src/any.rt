@@ -3,12 +3,12 @@ ghost use Rattle.texts.specs.Any.{letterOf, heldBy};
 use crate::letters::KindLetter;
 use drafts::automaton::Automaton;
 use drafts::draft::Draft;
-use kinds::delivered::M;
-use kinds::delivered::MKind;
-use kinds::delivered::R;
-use kinds::delivered::RKind;
-use kinds::delivered::Y;
-use kinds::delivered::YKind;
+use kinds::marks::M;
+use kinds::marks::MKind;
+use kinds::rank::R;
+use kinds::rank::RKind;
+use kinds::yes_no::Y;
+use kinds::yes_no::YKind;
 
 // A draft of a kind that has a letter.
 #[derive(Clone, Copy)]

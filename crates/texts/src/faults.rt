@@ -68,7 +68,10 @@ pub impl From<(u8, NumberFault)> for LineFault as NumberInLine {
     ghost converts = { λ x y. y ≡ LineFault.Field (x .0) (FieldFault.Number (x .1)) };
 
     fn from(value: (u8, NumberFault)) -> LineFault {
-        LineFault::Field { field: value.0, fault: FieldFault::Number(value.1) }
+        LineFault::Field {
+            field: value.0,
+            fault: FieldFault::Number(value.1),
+        }
     }
 }
 
@@ -104,7 +107,10 @@ pub impl From<(usize, LineFault)> for TextFault as LineInText {
     ghost converts = { λ x y. y ≡ TextFault.Line (x .0) (x .1) };
 
     fn from(value: (usize, LineFault)) -> TextFault {
-        TextFault::Line { line: value.0, fault: value.1 }
+        TextFault::Line {
+            line: value.0,
+            fault: value.1,
+        }
     }
 }
 
@@ -113,8 +119,18 @@ impl TextFault {
         ensures { λ r. ⌜ r ≡ refusalOf self ⌝ }
     {
         match self {
-            TextFault::TooLong => Refusal { number: 20, line: 0, field: 0, inner: 0 },
-            TextFault::NoEnd => Refusal { number: 21, line: 0, field: 0, inner: 0 },
+            TextFault::TooLong => Refusal {
+                number: 20,
+                line: 0,
+                field: 0,
+                inner: 0,
+            },
+            TextFault::NoEnd => Refusal {
+                number: 21,
+                line: 0,
+                field: 0,
+                inner: 0,
+            },
             TextFault::Line { line, fault } => refusal_in(line, fault),
         }
     }
@@ -125,11 +141,36 @@ fn refusal_in(line: usize, fault: LineFault) -> Refusal
     ensures { λ r. ⌜ r ≡ toldOfLine line fault ⌝ }
 {
     match fault {
-        LineFault::Record => Refusal { number: 22, line, field: 1, inner: 0 },
-        LineFault::FieldCount => Refusal { number: 23, line, field: 0, inner: 0 },
-        LineFault::Field { field, fault } => Refusal { number: 24, line, field, inner: fault.number() },
-        LineFault::Open(fault) => Refusal { number: 25, line, field: 0, inner: fault.number() },
-        LineFault::Call(fault) => Refusal { number: 25, line, field: 0, inner: fault.number() },
+        LineFault::Record => Refusal {
+            number: 22,
+            line,
+            field: 1,
+            inner: 0,
+        },
+        LineFault::FieldCount => Refusal {
+            number: 23,
+            line,
+            field: 0,
+            inner: 0,
+        },
+        LineFault::Field { field, fault } => Refusal {
+            number: 24,
+            line,
+            field,
+            inner: fault.number(),
+        },
+        LineFault::Open(fault) => Refusal {
+            number: 25,
+            line,
+            field: 0,
+            inner: fault.number(),
+        },
+        LineFault::Call(fault) => Refusal {
+            number: 25,
+            line,
+            field: 0,
+            inner: fault.number(),
+        },
     }
 }
 

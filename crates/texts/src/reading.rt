@@ -19,12 +19,12 @@ use crate::records::read_head;
 use drafts::draft::Draft;
 use drafts::signs::Signs;
 use fields::cutting::cut;
-use kinds::delivered::M;
-use kinds::delivered::MKind;
-use kinds::delivered::R;
-use kinds::delivered::RKind;
-use kinds::delivered::Y;
-use kinds::delivered::YKind;
+use kinds::marks::M;
+use kinds::marks::MKind;
+use kinds::rank::R;
+use kinds::rank::RKind;
+use kinds::yes_no::Y;
+use kinds::yes_no::YKind;
 use kinds::kind::Kind;
 
 // The largest text that is read, in bytes.

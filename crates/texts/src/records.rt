@@ -119,10 +119,17 @@ fn read_arrow(signs: &[u8], rest: &[u8]) -> Result<Call, LineFault>
     let (first, second, third) = three_fields(rest)?;
     let from = at(2u8, read_number(first))?;
     let Some(letter) = read_letter(signs, second) else {
-        return Err(LineFault::Field { field: 3, fault: FieldFault::NotListed });
+        return Err(LineFault::Field {
+            field: 3,
+            fault: FieldFault::NotListed,
+        });
     };
     let to = at(4u8, read_number(third))?;
-    Ok(Call::Link { from: usize::from(from), letter, to: usize::from(to) })
+    Ok(Call::Link {
+        from: usize::from(from),
+        letter,
+        to: usize::from(to),
+    })
 }
 
 // The call that a line after the first stands for.
@@ -159,7 +166,10 @@ pub fn read_head(line: &[u8]) -> Result<(KindLetter, Signs), LineFault>
         'D' => {
             let (kind, signs) = two_fields(rest)?;
             let Some(kind) = read_kind(kind) else {
-                return Err(LineFault::Field { field: 2, fault: FieldFault::NotListed });
+                return Err(LineFault::Field {
+                    field: 2,
+                    fault: FieldFault::NotListed,
+                });
             };
             let signs = Signs::new(signs)?;
             Ok((kind, signs))

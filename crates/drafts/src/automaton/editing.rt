@@ -16,7 +16,13 @@ impl Automaton {
     pub fn fresh(signs: Signs) -> Automaton
         ensures { λ r. ⌜ shown r ≡ fresh (signList signs) ⌝ }
     {
-        Automaton { signs, count: 0, codes: [0; 32], entries: StateSet::empty(), arrows: [[0; 16]; 32] }
+        Automaton {
+            signs,
+            count: 0,
+            codes: [0; 32],
+            entries: StateSet::empty(),
+            arrows: [[0; 16]; 32],
+        }
     }
 
     // Adds a state with this code, where there are fewer than 32.

@@ -25,7 +25,11 @@ impl Automaton {
     pub fn code(&self, state: usize) -> Option<u8>
         ensures { λ r. ⌜ r ≡ cond (isState (shown (now (self .entry))) state) (Some (getD (shown (now (self .entry)) .values) state 0)) None ⌝ }
     {
-        if state < self.count { Some(self.codes[state]) } else { None }
+        if state < self.count {
+            Some(self.codes[state])
+        } else {
+            None
+        }
     }
 
     pub fn is_entry(&self, state: usize) -> bool

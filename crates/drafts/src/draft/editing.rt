@@ -18,11 +18,20 @@ use kinds::kind::Kind;
 fn check_state(automaton: &Automaton, state: usize) -> Result<(), CallFault>
     ensures { λ r. ⌜ r ≡ unless (firstNo ((isState (shown (now (automaton .entry))) state, NoState) ∷ [])) tt ⌝ }
 {
-    if state < automaton.state_count() { Ok(()) } else { Err(CallFault::NoState) }
+    if state < automaton.state_count() {
+        Ok(())
+    } else {
+        Err(CallFault::NoState)
+    }
 }
 
 // Whether two states and a letter exist, in this order.
-fn check_arrow(automaton: &Automaton, from: usize, letter: usize, to: usize) -> Result<(), CallFault>
+fn check_arrow(
+    automaton: &Automaton,
+    from: usize,
+    letter: usize,
+    to: usize,
+) -> Result<(), CallFault>
     ensures { λ r. ⌜ r ≡ unless (firstNo ((isState (shown (now (automaton .entry))) from && isState (shown (now (automaton .entry))) to, NoState) ∷ (isLetter (shown (now (automaton .entry))) letter, NoLetter) ∷ [])) tt ⌝ }
 {
     let count = automaton.state_count();

@@ -22,7 +22,10 @@ impl<K: Kind> Draft<K> {
     pub fn fresh(signs: Signs) -> Draft<K>
         ensures { λ r. ⌜ drawn r ≡ fresh (signList signs) ⌝ }
     {
-        Draft { automaton: Automaton::fresh(signs), kind: PhantomData }
+        Draft {
+            automaton: Automaton::fresh(signs),
+            kind: PhantomData,
+        }
     }
 
     // What the draft holds.

@@ -50,7 +50,11 @@ impl<K: Kind> Draft<K> {
 
     // Makes each call of a list on what the one before left, refused or not, and answers what each
     // answered. Where there is no memory for the answers, no call is made.
-    pub fn apply_all(&mut self, heap: Global, calls: &[Call]) -> Result<Vec<Result<Answer, CallFault>>, AllocError>
+    pub fn apply_all(
+        &mut self,
+        heap: Global,
+        calls: &[Call],
+    ) -> Result<Vec<Result<Answer, CallFault>>, AllocError>
         ensures answers { λ r. ⌜ made r (λ v. vec-items v ≡ outcomes model (drawn (now (self .entry))) (now (calls .entry))) ⌝ }
         ensures left { λ r. ⌜ made r (λ _. drawn (now (self .exit)) ≡ afterAll model (drawn (now (self .entry))) (now (calls .entry))) ⌝ }
         ensures kept { λ r. ⌜ (isErr r ≡ true → now (self .exit) ≡ now (self .entry)) ⌝ }

@@ -42,8 +42,12 @@ impl StateSet {
             return self;
         }
         if member {
-            return StateSet { bits: self.bits | 1 << state };
+            return StateSet {
+                bits: self.bits | 1 << state,
+            };
         }
-        StateSet { bits: self.bits & !(1 << state) }
+        StateSet {
+            bits: self.bits & !(1 << state),
+        }
     }
 }

@@ -43,7 +43,10 @@ impl Signs {
         ensures { λ r. ⌜ SignsMade (now (signs .entry)) r ⌝ }
     {
         check_signs(signs)?;
-        Ok(Signs { bytes: in_places(signs), count: signs.len() })
+        Ok(Signs {
+            bytes: in_places(signs),
+            count: signs.len(),
+        })
     }
 
     // How many letters there are.

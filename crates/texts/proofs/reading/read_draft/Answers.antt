@@ -52,7 +52,7 @@ returns-in-Break-kind c =
     let q = placed-fault 1 (c .read-head .result) x (c .in-Break-kind .ensures tt) in
     let f = left-cut (c .in-Some .ensures tt .cuts) (inr ended) in
     rw (p .1, p .2) (opened text l ls (c .if-text-gt-LIMIT .left) ended (f .lines)
-      ∙ (all-head-fault l ls (x .1) (faulty l (c .read-head .result) (x .1) (q .1) (c .read-head .ensures)) ∙ ap (λ (n : ℕ). Err (Line n (c .in-Break-kind .field-0 .0 .1))) (sym (q .0))))
+    ∙ (all-head-fault l ls (x .1) (faulty l (c .read-head .result) (x .1) (q .1) (c .read-head .ensures)) ∙ ap (λ (n : ℕ). Err (Line n (c .in-Break-kind .field-0 .0 .1))) (sym (q .0))))
 
 pub read-rest-requires : need.read-rest-requires
 read-rest-requires c κs = left-cut (c .in-Some .ensures tt .cuts) (inr (sym (c .if-not-is-ended .ensures tt))) .rest
@@ -68,5 +68,5 @@ returns c =
     let f = left-cut (c .in-Some .ensures tt .cuts) (inr ended) in
     let q = placed-value 1 (c .read-head .result) (k, signs) (c .in-Continue-kind .ensures tt) in
     given text (c .in-Some .rest .now) k (signList signs) (c .read-rest .result)
-      (opened text l ls (c .if-text-gt-LIMIT .left) ended (f .lines) ∙ all-head l ls k (signList signs) (named l (c .read-head .result) k signs q (c .read-head .ensures)))
-      (c .read-rest .ensures)
+    (opened text l ls (c .if-text-gt-LIMIT .left) ended (f .lines) ∙ all-head l ls k (signList signs) (named l (c .read-head .result) k signs q (c .read-head .ensures)))
+    (c .read-rest .ensures)

@@ -31,7 +31,7 @@ returns-in-Break-apply g c =
     let call = c .in-Continue-call .call in
     let b = called _ _ _ l (Ok call) (c .signs .ensures) (c .automaton .ensures) (c .in-Continue-call .ensures tt) in
     rw (p .1, p .2) (line-refused K d l call (c .in-Break-apply .field-0 .0) b
-      (refused-by (refusal K d call) (answer d call) (c .in-Break-apply .field-0 .0) (sym (c .in-Break-apply .ensures tt .answer))))
+    (refused-by (refusal K d call) (answer d call) (c .in-Break-apply .field-0 .0) (sym (c .in-Break-apply .ensures tt .answer))))
 
 pub returns : need.returns
 returns g c =

@@ -28,7 +28,7 @@ returns-in-Break-at g c =
     let r = subst (λ (r : Result (Unit {0}) LineFault). LineRead (g .K·Kind .model) (drawn (c .loop-line .draft)) (c .in-Some .line .now) (drawn (c .read-line .last .draft)) r) (q .1) (c .read-line .ensures) in
     let f = left-cut (c .in-Some .ensures tt .cuts) (c .loop-line .inv .0) in
     rw (p .1, p .2) (turn-fault K n d (c .loop-line .rest .now) l (linesIn (c .in-Some .more .now)) (x .1) _ (f .lines) r (c .loop-line .inv .2)
-      ∙ ap (λ (m : ℕ). Err (Line m (c .in-Break-at .field-0 .0 .1))) (sym (q .0)))
+    ∙ ap (λ (m : ℕ). Err (Line m (c .in-Break-at .field-0 .0 .1))) (sym (q .0)))
 
 pub loop-line-less : need.loop-line-less
 loop-line-less g c = omega (arith, cut-length (c .in-Some .ensures tt .cuts))
@@ -41,6 +41,8 @@ loop-line-again g c =
     let n = c .loop-line .number + 1 in
     let q = placed-value (c .loop-line .number + 1) (c .read-line .result) (c .in-Continue-at .field-0) (c .in-Continue-at .ensures tt) in
     let r = subst (λ (r : Result (Unit {0}) LineFault). LineRead (g .K·Kind .model) (drawn (c .loop-line .draft)) (c .in-Some .line .now) (drawn (c .read-line .last .draft)) r) q (c .read-line .ensures) in
-    let f = left-cut (c .in-Some .ensures tt .cuts) (c .loop-line .inv .0) in
-    (f .rest, omega (arith, c .loop-line .inv .1, cut-length (c .in-Some .ensures tt .cuts)),
-     turn-done K n d (c .loop-line .rest .now) l (linesIn (c .in-Some .more .now)) (drawn (c .read-line .last .draft)) _ (f .lines) r (c .loop-line .inv .2))
+    let f = left-cut (c .in-Some .ensures tt .cuts) (c .loop-line .inv .0) in (
+      f .rest,
+      omega (arith, c .loop-line .inv .1, cut-length (c .in-Some .ensures tt .cuts)),
+      turn-done K n d (c .loop-line .rest .now) l (linesIn (c .in-Some .more .now)) (drawn (c .read-line .last .draft)) _ (f .lines) r (c .loop-line .inv .2),
+    )

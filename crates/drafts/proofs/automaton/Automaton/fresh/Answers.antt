@@ -13,9 +13,28 @@ use Rattle.drafts.proofs.automaton.Automaton.fresh.Needs as need
 
 pub ghost-result : need.ghost-result
 ghost-result c =
-    let none : (p : ℕ) → has (c .empty .result) p ≡ mathlib.Core.Bool.false = λ p. ap (λ (s : StateSet). has s p) (c .empty .ensures) ∙ has-none p in
-    (omega arith, (refl, ((λ k. omega (arith, zeros 32 k)), (refl, ((λ p l. ap length (row-none p l)), ((λ p a. omega (arith, ends-none p a)), ((λ k l. zeros 32 k),
-    ((λ p h. absurd (both-ways _ (none p) h)), ((λ p a q h. never p a q h), ((λ p a q h. never p a q h), ((λ p a q h. never p a q h), tt)))))))))))
+    let none : (p : ℕ) → has (c .empty .result) p ≡ mathlib.Core.Bool.false = λ p. ap (λ (s : StateSet). has s p) (c .empty .ensures) ∙ has-none p in (
+      omega arith,
+      (
+        refl,
+        (
+          (λ k. omega (arith, zeros 32 k)),
+          (
+            refl,
+            (
+              (λ p l. ap length (row-none p l)),
+              (
+                (λ p a. omega (arith, ends-none p a)),
+                (
+                  (λ k l. zeros 32 k),
+                  ((λ p h. absurd (both-ways _ (none p) h)), ((λ p a q h. never p a q h), ((λ p a q h. never p a q h), ((λ p a q h. never p a q h), tt)))),
+                ),
+              ),
+            ),
+          ),
+        ),
+      ),
+    )
 
 pub returns : need.returns
 returns c =

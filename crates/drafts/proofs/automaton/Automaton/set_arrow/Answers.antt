@@ -27,17 +27,42 @@ ghost-self c =
     let la : c .args .letter < c .args .self .now .signs .count = omega (arith, c .if-letter-len .taken, c .len .ensures, sign-count (c .args .self .now .signs)) in
     let row : c .args .from < length (c .args .self .now .arrows) = omega (arith, c .args .self .now .rows, c .args .self .now .few, c .if-from-self .taken) in
     let column : c .args .letter < length (getD (c .args .self .now .arrows) (c .args .from) []) = omega (arith, c .args .self .now .columns (c .args .from) row, c .args .self .now .signs .few) in
-    let put = stored v _ q (c .from-bits-ends .result) (c .put .result) (c .args .on) (c .bits .ensures) (c .from-bits-ends .ensures) (c .put .ensures .own lq) in
-    (d .few, (d .wide, (d .bytes, (length-set (d .arrows) p (set (getD (d .arrows) p []) a v) ∙ d .rows,
-    (written-rows (d .arrows) p a v row column 16 (d .columns), (written-bits (d .arrows) p a v row column (d .bits) (omega (arith, c .bits .ok)),
-    (d .blank, (d .entered, (written-from (d .arrows) p a q v (c .args .on) row column put (d .count) (c .if-from-self .taken) (d .from),
-    (written-by (d .arrows) p a q v (c .args .on) row column put (d .signs .count) la (d .by),
-    (written-to (d .arrows) p a q v (c .args .on) row column put (d .count) (c .if-to-self .taken) (d .to), tt)))))))))))
+    let put = stored v _ q (c .from-bits-ends .result) (c .put .result) (c .args .on) (c .bits .ensures) (c .from-bits-ends .ensures) (c .put .ensures .own lq) in (
+      d .few,
+      (
+        d .wide,
+        (
+          d .bytes,
+          (
+            length-set (d .arrows) p (set (getD (d .arrows) p []) a v) ∙ d .rows,
+            (
+              written-rows (d .arrows) p a v row column 16 (d .columns),
+              (
+                written-bits (d .arrows) p a v row column (d .bits) (omega (arith, c .bits .ok)),
+                (
+                  d .blank,
+                  (
+                    d .entered,
+                    (
+                      written-from (d .arrows) p a q v (c .args .on) row column put (d .count) (c .if-from-self .taken) (d .from),
+                      (
+                        written-by (d .arrows) p a q v (c .args .on) row column put (d .signs .count) la (d .by),
+                        (written-to (d .arrows) p a q v (c .args .on) row column put (d .count) (c .if-to-self .taken) (d .to), tt),
+                      ),
+                    ),
+                  ),
+                ),
+              ),
+            ),
+          ),
+        ),
+      ),
+    )
 
 pub returns-then-letter-len : need.returns-then-letter-len
 returns-then-letter-len c =
     let lq : c .args .to < 32 = omega (arith, c .if-to-self .taken, c .args .self .now .few) in
     let la : c .args .letter < c .args .self .now .signs .count = omega (arith, c .if-letter-len .taken, c .len .ensures, sign-count (c .args .self .now .signs)) in
     changed-arrow (c .args .self .now) (c .args .from) (c .args .letter) (c .args .to) (c .bits .result) (c .args .on) (c .if-from-self .taken) (c .if-to-self .taken) la
-      (stored (c .bits .result) _ (c .args .to) (c .from-bits-ends .result) (c .put .result) (c .args .on) (c .bits .ensures) (c .from-bits-ends .ensures) (c .put .ensures .own lq))
-      _ refl refl refl (λ p′ a′ q′. refl)
+    (stored (c .bits .result) _ (c .args .to) (c .from-bits-ends .result) (c .put .result) (c .args .on) (c .bits .ensures) (c .from-bits-ends .ensures) (c .put .ensures .own lq))
+    _ refl refl refl (λ p′ a′ q′. refl)

@@ -49,11 +49,13 @@ pub loop-call-again : need.loop-call-again
 loop-call-again g c =
     let i = c .loop-call .inv in
     let p = c .in-Continue-push .ensures tt in
-    let a = c .apply-answer .ensures in
-    (omega (arith, i .0, p .len), omega (arith, i .1, p .capacity),
-     answered (g .K·Kind .model) (drawn (c .loop-call .self)) (drawn (c .apply-answer .last .self)) (c .args .calls .now) (c .loop-call .call-index) (c .loop-call-test .taken) (a .left)
-       (vec-items (c .loop-call .answers)) (vec-items (c .push .last .self)) _ (c .apply-answer .result) (a .answer) (p .items) (i .2),
-     moved (g .K·Kind .model) (drawn (c .loop-call .self)) (drawn (c .apply-answer .last .self)) (c .args .calls .now) (c .loop-call .call-index) (c .loop-call-test .taken) (a .left) _ (i .3))
+    let a = c .apply-answer .ensures in (
+      omega (arith, i .0, p .len),
+      omega (arith, i .1, p .capacity),
+      answered (g .K·Kind .model) (drawn (c .loop-call .self)) (drawn (c .apply-answer .last .self)) (c .args .calls .now) (c .loop-call .call-index) (c .loop-call-test .taken) (a .left)
+          (vec-items (c .loop-call .answers)) (vec-items (c .push .last .self)) _ (c .apply-answer .result) (a .answer) (p .items) (i .2),
+      moved (g .K·Kind .model) (drawn (c .loop-call .self)) (drawn (c .apply-answer .last .self)) (c .args .calls .now) (c .loop-call .call-index) (c .loop-call-test .taken) (a .left) _ (i .3),
+    )
 
 pub returns : need.returns
 returns g c =

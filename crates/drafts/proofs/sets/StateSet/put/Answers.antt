@@ -19,7 +19,7 @@ returns-then-member c =
     let e = shifted (c .args .state) (c .if-state-ge32 .left) in
     record {
       own = λ l q. put-in (c .args .self .bits) (c .args .state) _ q e
-        ∙ ap (λ (b : Bool). cond (eqb q (c .args .state)) b (has (c .args .self) q)) (sym (c .if-member .taken));
+          ∙ ap (λ (b : Bool). cond (eqb q (c .args .state)) b (has (c .args .self) q)) (sym (c .if-member .taken));
       past = λ h. absurd (omega (arith, c .if-state-ge32 .left));
     }
 
@@ -28,6 +28,6 @@ returns c =
     let e = shifted (c .args .state) (c .if-state-ge32 .left) in
     record {
       own = λ l q. put-out (c .args .self .bits) (c .args .state) _ q (c .args .self .small) l e
-        ∙ ap (λ (b : Bool). cond (eqb q (c .args .state)) b (has (c .args .self) q)) (sym (c .if-member .left));
+          ∙ ap (λ (b : Bool). cond (eqb q (c .args .state)) b (has (c .args .self) q)) (sym (c .if-member .left));
       past = λ h. absurd (omega (arith, c .if-state-ge32 .left));
     }

@@ -12,11 +12,22 @@ ghost-result c =
     let xs = c .args .signs .now in
     let e = c .in-places .ensures in
     let a = accepted-parts xs (c .in-Continue-check-signs .ensures tt) in
-    let n = decides-counted xs .0 (a .0) in
-    (ap length e ∙ padded-length xs (n .1), (n .0, (n .1,
-      (subst (λ (bs : List ℕ). Visible bs (length xs)) (sym e) (padded-visible xs (visible-from xs (a .1))),
-      (subst (λ (bs : List ℕ). Apart bs (length xs)) (sym e) (padded-apart xs (apart-from xs (a .1))),
-      (subst (λ (bs : List ℕ). BlankPast bs (length xs)) (sym e) (padded-blank xs), tt))))))
+    let n = decides-counted xs .0 (a .0) in (
+      ap length e ∙ padded-length xs (n .1),
+      (
+        n .0,
+        (
+          n .1,
+          (
+            subst (λ (bs : List ℕ). Visible bs (length xs)) (sym e) (padded-visible xs (visible-from xs (a .1))),
+            (
+              subst (λ (bs : List ℕ). Apart bs (length xs)) (sym e) (padded-apart xs (apart-from xs (a .1))),
+              (subst (λ (bs : List ℕ). BlankPast bs (length xs)) (sym e) (padded-blank xs), tt),
+            ),
+          ),
+        ),
+      ),
+    )
 
 pub returns : need.returns
 returns c =
