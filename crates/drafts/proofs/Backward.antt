@@ -7,7 +7,7 @@ use lib.ListN.{getD}
 use Rattle.std.proofs.shelf.Tests.{and-from, and-parts}
 use Rattle.kinds.specs.Kinds.{KindModel, joinAll}
 use Rattle.kinds.proofs.Joins.{Below}
-use Rattle.drafts.specs.Drafts.{DraftModel, size}
+use Rattle.automata.specs.Drafts.{DraftModel, size}
 use Rattle.drafts.specs.Words.{tabulate, run, member, onward, entries, reachFrom, weigh, value}
 use Rattle.drafts.proofs.Tabulates.{getD-tabulate}
 use Rattle.drafts.proofs.Somes.{some-true, true-some}

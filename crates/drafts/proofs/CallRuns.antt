@@ -10,7 +10,7 @@ use Rattle.kinds.specs.Kinds.{KindModel}
 use Rattle.drafts.specs.declared.faults.CallFault.{CallFault}
 use Rattle.drafts.specs.declared.calls.Call.{Call}
 use Rattle.drafts.specs.declared.calls.Answer.{Answer}
-use Rattle.drafts.specs.Drafts.{DraftModel}
+use Rattle.automata.specs.Drafts.{DraftModel}
 use Rattle.drafts.specs.Calls.{effect, refusal, outcome, outcomes, after, afterAll}
 use Rattle.drafts.specs.Canonical.{eachBelow}
 use Rattle.drafts.specs.CallLaws.{AllOk}

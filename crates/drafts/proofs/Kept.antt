@@ -13,8 +13,8 @@ use Rattle.std.specs.declared.option.Option.the-variants.{None}
 use Rattle.kinds.specs.Kinds.{KindModel}
 use Rattle.drafts.specs.declared.calls.Call.{Call}
 use Rattle.drafts.specs.declared.calls.Call.the-variants.{Grow, Link, Unlink, Enter, Leave, Rate}
-use Rattle.drafts.specs.Drafts.{DraftModel, size, letters, fresh, withValues, withEntry, withArrow}
-use Rattle.drafts.specs.Calls.{isState, isLetter, questions, effect, refusal, after, afterAll}
+use Rattle.automata.specs.Drafts.{DraftModel, size, letters, fresh, withValues, withEntry, withArrow, isState, isLetter}
+use Rattle.drafts.specs.Calls.{questions, effect, refusal, after, afterAll}
 use Rattle.drafts.specs.Canonical.{Proper}
 use Rattle.drafts.proofs.Questions.{AllYes, yes-from-none}
 use Rattle.drafts.proofs.OneCall.{after-keeps}

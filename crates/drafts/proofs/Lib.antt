@@ -1,12 +1,5 @@
-pub mod Bits
-pub mod SetLaws
-pub mod SignLaws
-pub mod ArrowLaws
 pub mod Questions
 pub mod OneCall
-pub mod SameDraft
-pub mod ShownLaws
-pub mod HeldEqual
 pub mod Kept
 pub mod CallRuns
 pub mod Before

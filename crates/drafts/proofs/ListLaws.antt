@@ -1,6 +1,6 @@
 -- The laws of lists of calls.
 use Rattle.kinds.specs.Kinds.{KindModel}
-use Rattle.drafts.specs.Drafts.{fresh}
+use Rattle.automata.specs.Drafts.{fresh}
 use Rattle.drafts.specs.CallLaws.{CallLaws}
 use Rattle.drafts.proofs.CallRuns.{afterAll-append}
 use Rattle.drafts.proofs.Kept.{afterAll-signs, afterAll-proper, fresh-proper}

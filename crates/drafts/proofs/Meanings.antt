@@ -7,7 +7,7 @@ use lib.Dec.{eqb}
 use lib.ListN.{getD}
 use Rattle.kinds.specs.Kinds.{KindModel, clean, join}
 use Rattle.kinds.proofs.Joins.{clean-is, clean-idem}
-use Rattle.drafts.specs.Drafts.{DraftModel, size}
+use Rattle.automata.specs.Drafts.{DraftModel, size}
 use Rattle.drafts.specs.Words.{tabulate, member, union, only, entries, onward, reachFrom, reach, weigh, value, valueFrom}
 use Rattle.drafts.specs.WordLaws.{WordLaws}
 use Rattle.drafts.proofs.Tabulates.{getD-tabulate}

@@ -6,7 +6,7 @@ use Rattle.std.specs.declared.result.Result.the-variants.{Ok, Err}
 use Rattle.kinds.specs.Kinds.{KindModel}
 use Rattle.drafts.specs.declared.faults.CallFault.{CallFault}
 use Rattle.drafts.specs.declared.calls.Call.{Call}
-use Rattle.drafts.specs.Drafts.{DraftModel}
+use Rattle.automata.specs.Drafts.{DraftModel}
 use Rattle.drafts.specs.Calls.{effect, answer, refusal, unless, changed, outcome, after}
 
 module _ (K : KindModel) (d : DraftModel) (c : Call) where

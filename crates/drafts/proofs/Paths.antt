@@ -9,8 +9,8 @@ use lib.Dec.{eqb}
 use lib.ListN.{length, getD}
 use Rattle.std.proofs.shelf.Lists.{getD-past}
 use Rattle.std.proofs.shelf.Tests.{and-from, and-parts, both-ways, cases-lt, eqb-true, eq-eqb}
-use Rattle.drafts.specs.Tests.{some}
-use Rattle.drafts.specs.Drafts.{DraftModel, size}
+use Rattle.automata.specs.Tests.{some}
+use Rattle.automata.specs.Drafts.{DraftModel, size}
 use Rattle.drafts.specs.Words.{member, union, only, entries, onward, reachFrom, reach, Path}
 use Rattle.drafts.proofs.Tabulates.{length-tabulate, getD-tabulate}
 use Rattle.drafts.proofs.Somes.{some-true, true-some}

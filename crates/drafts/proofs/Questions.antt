@@ -7,7 +7,7 @@ use native.Mathlib.Omega.{arith}
 use Rattle.std.proofs.shelf.Tests.{cond-true}
 use Rattle.std.specs.declared.option.Option.the-variants.{Some, None}
 use Rattle.std.specs.shelf.Lists.{All}
-use Rattle.drafts.specs.Tests.{firstNo}
+use Rattle.automata.specs.Tests.{firstNo}
 
 module _ {E : Type 0} where
   -- every answer is yes

@@ -11,11 +11,11 @@ use Rattle.std.proofs.shelf.Tests.{true≢false, lt-ltb, le-ltb, eqb-true, and-
 use Rattle.kinds.specs.Kinds.{KindModel}
 use Rattle.drafts.specs.declared.calls.Call.{Call}
 use Rattle.drafts.specs.declared.calls.Call.the-variants.{Grow, Link, Enter}
-use Rattle.drafts.specs.Drafts.{DraftModel, size, letters, fresh, withValues, withEntry, withArrow}
+use Rattle.automata.specs.Drafts.{DraftModel, size, letters, fresh, withValues, withEntry, withArrow}
 use Rattle.drafts.specs.Calls.{questions}
 use Rattle.drafts.specs.Canonical.{Proper, eachBelow, growCalls, enterCalls, linkCalls, redrawn}
 use Rattle.drafts.proofs.Questions.{none-from-yes}
-use Rattle.drafts.proofs.SameDraft.{same-draft}
+use Rattle.automata.proofs.SameDraft.{same-draft}
 use Rattle.drafts.proofs.CallRuns.{Runs, runs-none, runs-one, runs-append, runs-to, runs-from, runs-below}
 use Rattle.drafts.proofs.Before.{ltb-next, before, before-self, before-first, before-next, before-letter, before-state, before-last}
 

@@ -5,7 +5,7 @@ use Prim.Native.Nat.{ℕ, zero, suc, _<_}
 use native.Mathlib.Decide.{ℕ-discrete}
 use native.Mathlib.Omega.{arith}
 use Rattle.std.proofs.shelf.Tests.{or-left, or-right}
-use Rattle.drafts.specs.Tests.{some}
+use Rattle.automata.specs.Tests.{some}
 
 pub some-true : (m : ℕ) (f : ℕ → Bool) (p : ℕ) → p < m → f p ≡ true → some m f ≡ true
 some-true zero f p l h = let z : ⊥ = omega arith in absurd z

@@ -6,7 +6,7 @@ use Rattle.std.specs.declared.result.Result.{Result}
 use Rattle.std.specs.declared.result.Result.the-variants.{Ok, Err}
 use Rattle.kinds.specs.Kinds.{KindModel}
 use Rattle.drafts.specs.declared.calls.Call.{Call}
-use Rattle.drafts.specs.Drafts.{DraftModel, fresh}
+use Rattle.automata.specs.Drafts.{DraftModel, fresh}
 use Rattle.drafts.specs.Calls.{afterAll, outcomes}
 use Rattle.drafts.specs.Canonical.{Proper, redrawn}
 

@@ -15,8 +15,8 @@ use Rattle.drafts.specs.declared.calls.Call.{Call}
 use Rattle.drafts.specs.declared.calls.Call.the-variants.{Grow, Link, Unlink, Enter, Leave, Rate}
 use Rattle.drafts.specs.declared.calls.Answer.{Answer}
 use Rattle.drafts.specs.declared.calls.Answer.the-variants.{State, Done}
-use Rattle.drafts.specs.Tests.{firstNo}
-use Rattle.drafts.specs.Drafts.{DraftModel, size, letters, withValues, withEntry, withArrow}
+use Rattle.automata.specs.Tests.{firstNo}
+use Rattle.automata.specs.Drafts.{DraftModel, size, isState, isLetter, withValues, withEntry, withArrow}
 
 abbrev pub callFaultNumber : CallFault → ℕ
 callFaultNumber NoState = 3
@@ -25,12 +25,6 @@ callFaultNumber NotAdmitted = 5
 callFaultNumber Full = 6
 callFaultNumber Present = 7
 callFaultNumber Absent = 8
-
-abbrev pub isState : DraftModel → ℕ → Bool
-isState d p = ltb p (size d)
-
-abbrev pub isLetter : DraftModel → ℕ → Bool
-isLetter d a = ltb a (letters d)
 
 -- The questions of each call, in their order, with the fault of a no.
 abbrev pub questions : KindModel → DraftModel → Call → List (Bool × CallFault)

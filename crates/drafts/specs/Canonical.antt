@@ -7,7 +7,7 @@ use lib.ListN.{getD}
 use Rattle.kinds.specs.Kinds.{KindModel}
 use Rattle.drafts.specs.declared.calls.Call.{Call}
 use Rattle.drafts.specs.declared.calls.Call.the-variants.{Grow, Link, Enter}
-use Rattle.drafts.specs.Drafts.{DraftModel, size, letters}
+use Rattle.automata.specs.Drafts.{DraftModel, size, letters}
 
 pub record Proper (K : KindModel) (d : DraftModel) : Type 0 where
   pub few : size d ≤ 32

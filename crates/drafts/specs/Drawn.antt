@@ -5,11 +5,11 @@ use Prim.Native.Nat.{ℕ}
 use Rattle.std.specs.declared.option.Option.the-variants.{Some, None}
 use Rattle.std.specs.declared.result.Result.{Result}
 use Rattle.std.specs.declared.result.Result.the-variants.{Ok, Err}
-use Rattle.drafts.specs.declared.faults.SignFault.{SignFault}
+use Rattle.automata.specs.declared.faults.SignFault.{SignFault}
 use Rattle.drafts.specs.declared.draft.Draft.{Draft}
-use Rattle.drafts.specs.Signs.{signFault}
-use Rattle.drafts.specs.Drafts.{DraftModel, fresh}
-use Rattle.drafts.specs.Shown.{shown}
+use Rattle.automata.specs.Signs.{signFault}
+use Rattle.automata.specs.Drafts.{DraftModel, fresh}
+use Rattle.automata.specs.Shown.{shown}
 
 abbrev pub drawn : {K : Type 0} → Draft K → DraftModel
 drawn d = shown (d .automaton)

@@ -1,10 +1,4 @@
-pub mod Tests
-pub mod Signs
-pub mod Sets
-pub mod Held
-pub mod Drafts
 pub mod Calls
-pub mod Shown
 pub mod Drawn
 pub mod Canonical
 pub mod CallLaws

@@ -5,7 +5,7 @@ use mathlib.Core.List.{List, [], _∷_, _++_}
 use mathlib.Core.Logic.{_↔_}
 use Prim.Native.Nat.{ℕ, _<_, _≤_}
 use Rattle.kinds.specs.Kinds.{KindModel, join, joinAll}
-use Rattle.drafts.specs.Drafts.{DraftModel, size}
+use Rattle.automata.specs.Drafts.{DraftModel, size}
 use Rattle.drafts.specs.Words.{tabulate, member, union, entries, onward, reach, Path, weigh, value, valueFrom}
 
 pub record WordLaws (K : KindModel) (d : DraftModel) : Type 0 where

@@ -6,8 +6,8 @@ use Prim.Native.Nat.{ℕ, zero, suc, _<_}
 use lib.Dec.{eqb}
 use lib.ListN.{getD}
 use Rattle.kinds.specs.Kinds.{KindModel, joinAll}
-use Rattle.drafts.specs.Tests.{some}
-use Rattle.drafts.specs.Drafts.{DraftModel, size}
+use Rattle.automata.specs.Tests.{some}
+use Rattle.automata.specs.Drafts.{DraftModel, size}
 
 -- A word is a list of letters. Each letter of the word is below n:
 abbrev pub Over : ℕ → List ℕ → Type 0

@@ -1,4 +1,4 @@
-use crate::automaton::Automaton;
+use automata::automaton::Automaton;
 use std::marker::PhantomData;
 
 pub mod editing;

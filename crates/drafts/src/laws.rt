@@ -1,8 +1,5 @@
-ghost use mathlib.Core.Path.{_≡_};
-ghost use Rattle.drafts.specs.declared.automaton.Automaton.{Automaton};
 ghost use Rattle.drafts.specs.CallLaws.{CallLaws};
-ghost use Rattle.drafts.specs.Drafts.{DraftModel};
-ghost use Rattle.drafts.specs.Shown.{shown};
+ghost use Rattle.automata.specs.Drafts.{DraftModel};
 ghost use Rattle.drafts.specs.WordLaws.{WordLaws};
 use kinds::kind::Kind;
 
@@ -15,9 +12,4 @@ pub fn call_laws<K: Kind>()
 // What every draft says of words, for every kind.
 pub fn word_laws<K: Kind>()
     ensures { λ _. ⌜ ((d : DraftModel) → WordLaws (K·Kind .model) d) ⌝ }
-{}
-
-// Two automata that hold the same signs, values, entry states and arrows are equal.
-pub fn held_laws()
-    ensures { λ _. ⌜ ((d e : Automaton) → shown d ≡ shown e → d ≡ e) ⌝ }
 {}

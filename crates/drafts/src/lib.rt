@@ -1,8 +1,5 @@
-// Drafts: nondeterministic automata whose states carry values of one kind, and the calls that make them.
-pub mod automaton;
+// Drafts: automata whose codes are values of one kind, and the calls that make them.
 pub mod calls;
 pub mod draft;
 pub mod faults;
 pub mod laws;
-pub mod sets;
-pub mod signs;

@@ -1,6 +1,5 @@
 ghost use mathlib.Core.Path.{_≡_};
 ghost use mathlib.Core.Bool.{true};
-ghost use Rattle.kinds.specs.JoinLaws.{JoinLaws};
 ghost use Rattle.kinds.specs.Kinds.{KindModel, clean, join};
 
 // A kind of value. A value is one byte, its code; the codes that a kind admits form a
@@ -39,8 +38,7 @@ pub trait Kind {
 
     // The join of any two codes, each of which counts as none where it is not admitted.
     fn join(a: u8, b: u8) -> u8
-        ensures value { λ r. ⌜ r ≡ join model a b ⌝ }
-        ensures laws { λ _. ⌜ JoinLaws model ⌝ }
+        ensures { λ r. ⌜ r ≡ join model a b ⌝ }
     {
         Self::combine(Self::clean(a), Self::clean(b))
     }

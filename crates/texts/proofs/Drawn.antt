@@ -10,8 +10,8 @@ use Rattle.kinds.specs.Kinds.{KindModel}
 use Rattle.drafts.specs.declared.faults.CallFault.{CallFault}
 use Rattle.drafts.specs.declared.calls.Call.{Call}
 use Rattle.drafts.specs.declared.calls.Answer.{Answer}
-use Rattle.drafts.specs.Signs.{signFault}
-use Rattle.drafts.specs.Drafts.{DraftModel}
+use Rattle.automata.specs.Signs.{signFault}
+use Rattle.automata.specs.Drafts.{DraftModel}
 use Rattle.drafts.specs.Calls.{effect, answer, refusal, unless, outcomes, after, afterAll}
 use Rattle.drafts.specs.CallLaws.{AllOk}
 use Rattle.drafts.proofs.OneCall.{accepted-after, accepted-outcome}

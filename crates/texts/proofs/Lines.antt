@@ -18,12 +18,12 @@ use Rattle.fields.specs.Numbers.{numberOf}
 use Rattle.fields.proofs.Separated.{pieces-one, pieces-cut, pieces-some}
 use Rattle.fields.proofs.Numerals.{number-reads, digits}
 use Rattle.std.proofs.shelf.Decimals.{value-decimal}
-use Rattle.drafts.specs.declared.faults.SignFault.{SignFault}
+use Rattle.automata.specs.declared.faults.SignFault.{SignFault}
 use Rattle.drafts.specs.declared.faults.CallFault.{CallFault}
 use Rattle.drafts.specs.declared.calls.Call.{Call}
 use Rattle.drafts.specs.declared.calls.Call.the-variants.{Grow, Link, Enter}
-use Rattle.drafts.specs.Signs.{signFault}
-use Rattle.drafts.specs.Drafts.{DraftModel}
+use Rattle.automata.specs.Signs.{signFault}
+use Rattle.automata.specs.Drafts.{DraftModel}
 use Rattle.drafts.specs.Calls.{unless, refusal, effect}
 use Rattle.texts.specs.declared.letters.KindLetter.{KindLetter}
 use Rattle.texts.specs.declared.faults.FieldFault.the-variants.{Number, NotListed}

@@ -9,8 +9,8 @@ use lib.ListN.{length, getD}
 use Rattle.std.specs.declared.option.Option.the-variants.{None}
 use Rattle.std.proofs.shelf.Tests.{eqb-true, eqb-false, cond-both, cases-order, cases-lt}
 use Rattle.fields.specs.Pieces.{Free}
-use Rattle.drafts.specs.Signs.{signFault}
-use Rattle.drafts.proofs.SignLaws.{accepted-parts, visible-from, apart-from}
+use Rattle.automata.specs.Signs.{signFault}
+use Rattle.automata.proofs.SignLaws.{accepted-parts, visible-from, apart-from}
 use Rattle.texts.specs.Reading.{placeOf}
 
 pub place-most : (b : ℕ) (signs : List ℕ) → placeOf b signs ≤ length signs

@@ -18,10 +18,10 @@ use Rattle.fields.specs.Pieces.{pieces, behind, joinWith, Free, AllFree}
 use Rattle.fields.specs.Numbers.{numberOf}
 use Rattle.fields.proofs.Separated.{rejoined, free-nil, free-cons, free-append}
 use Rattle.fields.proofs.Numerals.{number-reads, number-decimal, decimal-free-tab, decimal-free-newline}
-use Rattle.drafts.specs.declared.faults.SignFault.{SignFault}
+use Rattle.automata.specs.declared.faults.SignFault.{SignFault}
 use Rattle.drafts.specs.declared.calls.Call.{Call}
 use Rattle.drafts.specs.declared.calls.Call.the-variants.{Grow, Link, Unlink, Enter, Leave, Rate}
-use Rattle.drafts.specs.Signs.{signFault}
+use Rattle.automata.specs.Signs.{signFault}
 use Rattle.texts.specs.declared.letters.KindLetter.{KindLetter}
 use Rattle.texts.specs.declared.letters.KindLetter.the-variants.{Y, R, M}
 use Rattle.texts.specs.declared.faults.LineFault.the-variants as line

@@ -10,8 +10,8 @@ use Rattle.std.specs.declared.result.Result.the-variants.{Ok, Err}
 use Rattle.std.proofs.shelf.Tests.{leb-true, cond-both}
 use Rattle.fields.specs.Pieces.{ended, AllFree}
 use Rattle.drafts.specs.declared.calls.Call.{Call}
-use Rattle.drafts.specs.Signs.{signFault}
-use Rattle.drafts.specs.Drafts.{DraftModel, fresh}
+use Rattle.automata.specs.Signs.{signFault}
+use Rattle.automata.specs.Drafts.{DraftModel, fresh}
 use Rattle.drafts.specs.Calls.{afterAll, outcomes}
 use Rattle.drafts.specs.Canonical.{Proper, redrawn}
 use Rattle.drafts.specs.CallLaws.{AllOk}

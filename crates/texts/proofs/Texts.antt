@@ -12,7 +12,7 @@ use Rattle.std.proofs.shelf.Tests.{eqb-true, eq-eqb, ne-eqb, ltb-true, lt-ltb, 
 use Rattle.std.specs.declared.result.Result.{Result}
 use Rattle.std.specs.declared.result.Result.the-variants.{Ok, Err}
 use Rattle.kinds.specs.Kinds.{KindModel}
-use Rattle.drafts.specs.Drafts.{DraftModel, fresh}
+use Rattle.automata.specs.Drafts.{DraftModel, fresh}
 use Rattle.fields.specs.Pieces.{pieces, ended, Free, AllFree}
 use Rattle.fields.proofs.Separated.{pieces-some, pieces-cut, pieces-ended, free-nil, free-cons}
 use Rattle.texts.specs.declared.letters.KindLetter.{KindLetter}

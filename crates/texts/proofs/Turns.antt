@@ -11,7 +11,7 @@ use Rattle.std.specs.declared.result.Result.{Result}
 use Rattle.std.specs.declared.result.Result.the-variants.{Ok, Err}
 use Rattle.kinds.specs.Kinds.{KindModel}
 use Rattle.fields.specs.Pieces.{Free, CutAt}
-use Rattle.drafts.specs.Drafts.{DraftModel}
+use Rattle.automata.specs.Drafts.{DraftModel}
 use Rattle.texts.specs.declared.faults.LineFault.{LineFault}
 use Rattle.texts.specs.declared.faults.TextFault.{TextFault}
 use Rattle.texts.specs.declared.faults.TextFault.the-variants.{Line}

@@ -10,7 +10,7 @@ use Rattle.std.proofs.shelf.Tests.{ltb-true, cases-lt}
 use Rattle.std.proofs.shelf.Lists.{getD-past}
 use Rattle.drafts.specs.declared.calls.Call.{Call}
 use Rattle.drafts.specs.declared.calls.Call.the-variants.{Grow, Link, Enter}
-use Rattle.drafts.specs.Drafts.{DraftModel, size, letters}
+use Rattle.automata.specs.Drafts.{DraftModel, size, letters}
 use Rattle.drafts.specs.Canonical.{Proper, eachBelow, growCalls, enterCalls, linkCalls, redrawn}
 use Rattle.texts.specs.declared.letters.KindLetter.{KindLetter}
 use Rattle.texts.specs.declared.letters.KindLetter.the-variants.{Y, R, M}

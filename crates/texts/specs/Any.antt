@@ -1,8 +1,8 @@
 -- A draft of one of the kinds that have a letter.
 use mathlib.Core.Path.{_≡_}
-use Rattle.drafts.specs.declared.automaton.Automaton.{Automaton}
-use Rattle.drafts.specs.Drafts.{DraftModel}
-use Rattle.drafts.specs.Shown.{shown}
+use Rattle.automata.specs.declared.automaton.Automaton.{Automaton}
+use Rattle.automata.specs.Drafts.{DraftModel}
+use Rattle.automata.specs.Shown.{shown}
 use Rattle.texts.specs.declared.letters.KindLetter.{KindLetter}
 use Rattle.texts.specs.declared.letters.KindLetter.the-variants.{Y, R, M}
 use Rattle.texts.specs.declared.any.AnyDraft.{AnyDraft}

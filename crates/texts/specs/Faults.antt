@@ -3,7 +3,7 @@ use Prim.Native.Nat.{ℕ}
 use Rattle.std.specs.declared.result.Result.{Result}
 use Rattle.std.specs.declared.result.Result.the-variants.{Ok, Err}
 use Rattle.fields.specs.Numbers.{faultNumber}
-use Rattle.drafts.specs.Signs.{signFaultNumber}
+use Rattle.automata.specs.Signs.{signFaultNumber}
 use Rattle.drafts.specs.Calls.{callFaultNumber}
 use Rattle.texts.specs.declared.faults.Refusal.{Refusal}
 use Rattle.texts.specs.declared.faults.FieldFault.{FieldFault}

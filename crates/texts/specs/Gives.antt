@@ -5,10 +5,10 @@ use Prim.Native.Nat.{ℕ}
 use Rattle.std.specs.declared.result.Result.{Result}
 use Rattle.std.specs.declared.result.Result.the-variants.{Ok, Err}
 use Rattle.kinds.specs.Kinds.{KindModel}
-use Rattle.drafts.specs.declared.signs.Signs.{Signs}
+use Rattle.automata.specs.declared.signs.Signs.{Signs}
 use Rattle.drafts.specs.declared.draft.Draft.{Draft}
-use Rattle.drafts.specs.Drafts.{DraftModel, fresh}
-use Rattle.drafts.specs.Shown.{signList}
+use Rattle.automata.specs.Drafts.{DraftModel, fresh}
+use Rattle.automata.specs.Shown.{signList}
 use Rattle.drafts.specs.Drawn.{drawn}
 use Rattle.texts.specs.declared.letters.KindLetter.{KindLetter}
 use Rattle.texts.specs.declared.faults.LineFault.{LineFault}

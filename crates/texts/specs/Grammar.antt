@@ -9,7 +9,7 @@ use Rattle.kinds.specs.Delivered.{yModel, rModel, mModel}
 use Rattle.fields.specs.Pieces.{joinWith, ended}
 use Rattle.drafts.specs.declared.calls.Call.{Call}
 use Rattle.drafts.specs.declared.calls.Call.the-variants.{Grow, Link, Unlink, Enter, Leave, Rate}
-use Rattle.drafts.specs.Drafts.{DraftModel}
+use Rattle.automata.specs.Drafts.{DraftModel}
 use Rattle.drafts.specs.Canonical.{redrawn}
 use Rattle.texts.specs.declared.letters.KindLetter.{KindLetter}
 use Rattle.texts.specs.declared.letters.KindLetter.the-variants.{Y, R, M}

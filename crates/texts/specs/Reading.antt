@@ -15,8 +15,8 @@ use Rattle.fields.specs.Pieces.{pieces}
 use Rattle.fields.specs.Numbers.{numberOf}
 use Rattle.drafts.specs.declared.calls.Call.{Call}
 use Rattle.drafts.specs.declared.calls.Call.the-variants.{Grow, Link, Enter}
-use Rattle.drafts.specs.Signs.{signFault}
-use Rattle.drafts.specs.Drafts.{DraftModel, fresh}
+use Rattle.automata.specs.Signs.{signFault}
+use Rattle.automata.specs.Drafts.{DraftModel, fresh}
 use Rattle.drafts.specs.Calls.{refusal, effect, unless}
 use Rattle.texts.specs.declared.letters.KindLetter.{KindLetter}
 use Rattle.texts.specs.declared.letters.KindLetter.the-variants.{Y, R, M}

@@ -8,8 +8,8 @@ use lib.ListN.{length}
 use Rattle.std.specs.declared.option.Option.the-variants.{None}
 use Rattle.std.specs.declared.result.Result.the-variants.{Ok}
 use Rattle.drafts.specs.declared.calls.Call.{Call}
-use Rattle.drafts.specs.Signs.{signFault}
-use Rattle.drafts.specs.Drafts.{DraftModel, fresh}
+use Rattle.automata.specs.Signs.{signFault}
+use Rattle.automata.specs.Drafts.{DraftModel, fresh}
 use Rattle.drafts.specs.Calls.{afterAll, outcomes}
 use Rattle.drafts.specs.CallLaws.{AllOk}
 use Rattle.texts.specs.declared.letters.KindLetter.{KindLetter}

@@ -1,7 +1,7 @@
 ghost use mathlib.Core.Path.{_≡_};
 ghost use Rattle.texts.specs.Any.{letterOf, heldBy};
 use crate::letters::KindLetter;
-use drafts::automaton::Automaton;
+use automata::automaton::Automaton;
 use drafts::draft::Draft;
 use kinds::marks::M;
 use kinds::marks::MKind;

@@ -18,7 +18,7 @@ use crate::faults::SignsInLine;
 use crate::faults::at;
 use crate::letters::KindLetter;
 use drafts::calls::Call;
-use drafts::signs::Signs;
+use automata::signs::Signs;
 use fields::cutting::cut;
 use fields::numbers::read_number;
 

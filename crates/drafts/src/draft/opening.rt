@@ -1,11 +1,11 @@
 ghost use mathlib.Core.Path.{_≡_};
-ghost use Rattle.drafts.specs.Drafts.{fresh};
+ghost use Rattle.automata.specs.Drafts.{fresh};
 ghost use Rattle.drafts.specs.Drawn.{drawn, Opened};
-ghost use Rattle.drafts.specs.Shown.{signList};
-use crate::automaton::Automaton;
+ghost use Rattle.automata.specs.Shown.{signList};
+use automata::automaton::Automaton;
 use crate::draft::Draft;
-use crate::faults::SignFault;
-use crate::signs::Signs;
+use automata::faults::SignFault;
+use automata::signs::Signs;
 use kinds::kind::Kind;
 use std::marker::PhantomData;
 

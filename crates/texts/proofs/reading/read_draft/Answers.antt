@@ -8,9 +8,9 @@ use denote.Ref.{now}
 use Rattle.std.specs.declared.result.Result.{Result}
 use Rattle.std.specs.declared.result.Result.the-variants.{Ok, Err}
 use Rattle.std.proofs.shelf.Results.{err-from-errBy}
-use Rattle.drafts.specs.declared.signs.Signs.{Signs}
-use Rattle.drafts.specs.Drafts.{fresh}
-use Rattle.drafts.specs.Shown.{signList}
+use Rattle.automata.specs.declared.signs.Signs.{Signs}
+use Rattle.automata.specs.Drafts.{fresh}
+use Rattle.automata.specs.Shown.{signList}
 use Rattle.texts.specs.declared.letters.KindLetter.{KindLetter}
 use Rattle.texts.specs.declared.faults.LineFault.{LineFault}
 use Rattle.texts.specs.declared.faults.TextFault.{TextFault}

@@ -6,9 +6,9 @@ use Rattle.std.specs.declared.result.Result.{Result}
 use Rattle.std.specs.declared.result.Result.the-variants.{Ok, Err}
 use Rattle.std.proofs.shelf.Results.{err-from-errBy}
 use Rattle.kinds.specs.Kinds.{KindModel}
-use Rattle.drafts.specs.declared.automaton.Automaton.{Automaton}
+use Rattle.automata.specs.declared.automaton.Automaton.{Automaton}
 use Rattle.drafts.specs.declared.calls.Call.{Call}
-use Rattle.drafts.specs.Shown.{shown}
+use Rattle.automata.specs.Shown.{shown}
 use Rattle.drafts.specs.Drawn.{drawn}
 use Rattle.drafts.specs.Calls.{refusal, after, answer}
 use Rattle.drafts.proofs.OneCall.{accepted-after}

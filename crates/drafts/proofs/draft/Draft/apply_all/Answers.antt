@@ -11,7 +11,7 @@ use Rattle.drafts.specs.declared.faults.CallFault.{CallFault}
 use Rattle.drafts.specs.declared.calls.Call.{Call}
 use Rattle.drafts.specs.declared.calls.Call.the-variants.{Grow}
 use Rattle.drafts.specs.declared.calls.Answer.{Answer}
-use Rattle.drafts.specs.Drafts.{DraftModel}
+use Rattle.automata.specs.Drafts.{DraftModel}
 use Rattle.drafts.specs.Calls.{outcome, after, outcomes, afterAll}
 use Rattle.std.specs.Of.Vec.{vec-items}
 use Rattle.drafts.specs.Drawn.{drawn}

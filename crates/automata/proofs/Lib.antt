@@ -1,0 +1,7 @@
+pub mod Bits
+pub mod SetLaws
+pub mod SignLaws
+pub mod ArrowLaws
+pub mod SameDraft
+pub mod ShownLaws
+pub mod HeldEqual
