@@ -8,3 +8,6 @@ pub mod Writable
 pub mod TextLaws
 pub mod Outcomes
 pub mod Turns
+pub mod LinesPut
+pub mod Lengths
+pub mod Filled

@@ -4,3 +4,5 @@ pub mod Grammar
 pub mod Reading
 pub mod Gives
 pub mod TextLaws
+pub mod Writing
+pub mod Tidying

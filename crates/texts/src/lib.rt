@@ -5,3 +5,5 @@ pub mod laws;
 pub mod letters;
 pub mod reading;
 pub mod records;
+pub mod tidying;
+pub mod writing;
