@@ -1,5 +1,8 @@
 use crate::further::Gaps;
 use crate::further::GapsKind;
+use automata::faults::SignFault;
+use automata::faults::SignFaultDebug;
+use automata::faults::SignFaultPartialEq;
 use drafts::calls::Answer;
 use drafts::calls::AnswerDebug;
 use drafts::calls::AnswerPartialEq;
@@ -8,9 +11,6 @@ use drafts::draft::Draft;
 use drafts::faults::CallFault;
 use drafts::faults::CallFaultDebug;
 use drafts::faults::CallFaultPartialEq;
-use automata::faults::SignFault;
-use automata::faults::SignFaultDebug;
-use automata::faults::SignFaultPartialEq;
 use kinds::marks::M;
 use kinds::marks::MKind;
 use kinds::rank::R;

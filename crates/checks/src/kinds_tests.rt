@@ -2,13 +2,13 @@ use crate::further::Gaps;
 use crate::further::GapsKind;
 use crate::further::Nothing;
 use crate::further::NothingKind;
+use kinds::kind::Kind;
 use kinds::marks::M;
 use kinds::marks::MKind;
 use kinds::rank::R;
 use kinds::rank::RKind;
 use kinds::yes_no::Y;
 use kinds::yes_no::YKind;
-use kinds::kind::Kind;
 use std::test::*;
 
 #[test]

@@ -6,3 +6,5 @@ pub mod further;
 mod kinds_tests;
 #[cfg(test)]
 mod text_tests;
+#[cfg(test)]
+mod write_tests;

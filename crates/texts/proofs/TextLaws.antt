@@ -22,7 +22,7 @@ use Rattle.texts.specs.declared.faults.TextFault.{TextFault}
 use Rattle.texts.specs.declared.faults.TextFault.the-variants.{TooLong, NoEnd}
 use Rattle.texts.specs.Grammar.{kindOf, lineOf, headFields, AllHaveLines, spelled, written}
 use Rattle.texts.specs.Reading.{then, atLine, readHead, readLines, Drawn, asDrawn, readAll, linesIn, lineEnded, readText}
-use Rattle.texts.specs.TextLaws.{Spells, TextLaws}
+use Rattle.texts.specs.TextLaws.{ReadsBack, Spells, TextLaws}
 use Rattle.texts.proofs.Texts.{lines-ended, ended-some, lines-rejoined, text-lines, all-head}
 use Rattle.texts.proofs.Spelled.{fault-not-ok, head-reads, head-spelled, SpellsHead, call-line-free, head-line-free}
 use Rattle.texts.proofs.Writable.{redrawn-lines, value-small}
@@ -114,12 +114,11 @@ written-read k d h ok short =
     spelled-read k (d .signs) ok (redrawn d) (redrawn-lines d (h .few) (value-small k d h)) (laws .accepted d h) short
     ∙ ap (λ (e : DraftModel). Ok (k, e)) (laws .redraws d h)
 
-pub drawn-read : (k : KindLetter) (signs : List ℕ) (calls : List Call) → signFault signs ≡ None
-    → length (written k (afterAll (kindOf k) (fresh signs) calls)) ≤ 32768
-    → readText (written k (afterAll (kindOf k) (fresh signs) calls)) ≡ Ok (k, afterAll (kindOf k) (fresh signs) calls)
-drawn-read k signs calls ok short =
+pub drawn-read : (k : KindLetter) (d : DraftModel) → ReadsBack k d
+drawn-read k d signs calls ok drawn short =
     let laws = call-laws (kindOf k) in
-    written-read k (afterAll (kindOf k) (fresh signs) calls) (laws .proper signs calls) (ap signFault (laws .signs (fresh signs) calls) ∙ ok) short
+    let proper = subst (Proper (kindOf k)) (sym drawn) (laws .proper signs calls) in
+    written-read k d proper (ap (λ (e : DraftModel). signFault (e .signs)) drawn ∙ (ap signFault (laws .signs (fresh signs) calls) ∙ ok)) short
 
 pub text-laws : TextLaws
 text-laws = record {

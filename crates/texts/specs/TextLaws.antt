@@ -27,10 +27,14 @@ pub record Spells (text : List ℕ) (k : KindLetter) (d : DraftModel) : Type 0 w
   pub done : AllOk (outcomes (kindOf k) (fresh signs) calls)
   pub drawn : d ≡ afterAll (kindOf k) (fresh signs) calls
 
+-- Where some list of calls drew d from acceptable signs, and its text is within the limit, that text is read as d.
+abbrev pub ReadsBack : KindLetter → DraftModel → Type 0
+ReadsBack k d =
+    (signs : List ℕ) (calls : List Call) → signFault signs ≡ None → d ≡ afterAll (kindOf k) (fresh signs) calls
+    → length (written k d) ≤ 32768 → readText (written k d) ≡ Ok (k, d)
+
 pub record TextLaws : Type 0 where
   -- a text is read as a draft exactly if it spells it
   pub reads : (text : List ℕ) (k : KindLetter) (d : DraftModel) → (readText text ≡ Ok (k, d)) ↔ Spells text k d
-  -- a draft that calls drew is read back from what is written of it, within the text limit
-  pub back : (k : KindLetter) (signs : List ℕ) (calls : List Call) → signFault signs ≡ None
-      → length (written k (afterAll (kindOf k) (fresh signs) calls)) ≤ 32768
-      → readText (written k (afterAll (kindOf k) (fresh signs) calls)) ≡ Ok (k, afterAll (kindOf k) (fresh signs) calls)
+  -- what is written of a draft that calls drew reads back
+  pub back : (k : KindLetter) (d : DraftModel) → ReadsBack k d

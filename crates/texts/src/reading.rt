@@ -16,16 +16,16 @@ use crate::faults::at;
 use crate::letters::KindLetter;
 use crate::records::read_call;
 use crate::records::read_head;
-use drafts::draft::Draft;
 use automata::signs::Signs;
+use drafts::draft::Draft;
 use fields::cutting::cut;
+use kinds::kind::Kind;
 use kinds::marks::M;
 use kinds::marks::MKind;
 use kinds::rank::R;
 use kinds::rank::RKind;
 use kinds::yes_no::Y;
 use kinds::yes_no::YKind;
-use kinds::kind::Kind;
 
 // The largest text that is read, in bytes.
 const LIMIT: usize = 32768;

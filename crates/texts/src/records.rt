@@ -17,8 +17,8 @@ use crate::faults::NumberInLine;
 use crate::faults::SignsInLine;
 use crate::faults::at;
 use crate::letters::KindLetter;
-use drafts::calls::Call;
 use automata::signs::Signs;
+use drafts::calls::Call;
 use fields::cutting::cut;
 use fields::numbers::read_number;
 

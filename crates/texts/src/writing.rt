@@ -9,6 +9,7 @@ ghost use Rattle.drafts.specs.Canonical.{growCalls, enterCalls, linkCalls};
 ghost use Rattle.automata.specs.Shown.{shown};
 ghost use Rattle.texts.specs.Any.{letterOf, modelOf};
 ghost use Rattle.texts.specs.Grammar.{letterByte, headFields, written};
+ghost use Rattle.texts.specs.TextLaws.{ReadsBack};
 ghost use Rattle.texts.specs.Writing.{writeFaultNumber, endedLine, callLines, growCall, enterCall, linkCall, linksBy, linksFrom, refusalLine, Wrote};
 use crate::any::AnyDraft;
 use crate::faults::Refusal;
@@ -200,7 +201,8 @@ pub fn draft_len(draft: &AnyDraft) -> usize
 // Writes the text of a draft to the front of `out` and answers its length.
 // Where `out` is too short, nothing is written.
 pub fn write_draft(draft: &AnyDraft, out: &mut [u8]) -> Result<usize, WriteFault>
-    ensures { λ r. ⌜ Wrote (written (letterOf (now (draft .entry))) (modelOf (now (draft .entry)))) (now (out .entry)) (now (out .exit)) r ⌝ }
+    ensures wrote { λ r. ⌜ Wrote (written (letterOf (now (draft .entry))) (modelOf (now (draft .entry)))) (now (out .entry)) (now (out .exit)) r ⌝ }
+    ensures back { λ _. ⌜ ReadsBack (letterOf (now (draft .entry))) (modelOf (now (draft .entry))) ⌝ }
 {
     if draft_len(draft) > out.len() {
         return Err(WriteFault::NoRoom);

@@ -2,7 +2,6 @@ ghost use mathlib.Core.Path.{_≡_};
 ghost use lib.ListN.{length, getD};
 ghost use mathlib.Core.Bool.{cond};
 ghost use Rattle.std.specs.declared.option.Option.the-variants.{Some, None};
-
 ghost use Rattle.automata.specs.Drafts.{size, isState};
 ghost use Rattle.automata.specs.Shown.{shown};
 use crate::automaton::Automaton;

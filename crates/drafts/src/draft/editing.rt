@@ -9,9 +9,9 @@ ghost use Rattle.automata.specs.Drafts.{size, isState, isLetter};
 ghost use Rattle.drafts.specs.Calls.{refusal, after, unless};
 ghost use Rattle.automata.specs.Shown.{shown};
 ghost use Rattle.drafts.specs.Drawn.{drawn};
-use automata::automaton::Automaton;
 use crate::draft::Draft;
 use crate::faults::CallFault;
+use automata::automaton::Automaton;
 use kinds::kind::Kind;
 
 // Whether a state exists.

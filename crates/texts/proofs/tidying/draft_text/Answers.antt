@@ -7,4 +7,4 @@ pub returns : need.returns
 returns c =
     let long = c .in-Continue-text .ensures tt .made .1 in
     filled _ (now (c .as-mut-slice .result)) (c .write-draft .last .out) (c .in-Continue-text .text .items) (c .in-Continue-text .text .len)
-      (c .write-draft .result) (long ∙ c .draft-len .ensures) (c .as-mut-slice .ensures .len) (c .write-draft .ensures)
+    (c .write-draft .result) (long ∙ c .draft-len .ensures) (c .as-mut-slice .ensures .len) (c .write-draft .ensures .wrote)

@@ -7,4 +7,4 @@ pub returns : need.returns
 returns c =
     let long = c .in-Continue-text .ensures tt .made .1 in
     filled _ (now (c .as-mut-slice .result)) (c .write-refusal .last .out) (c .in-Continue-text .text .items) (c .in-Continue-text .text .len)
-      (c .write-refusal .result) (long ∙ c .refusal-len .ensures) (c .as-mut-slice .ensures .len) (c .write-refusal .ensures)
+    (c .write-refusal .result) (long ∙ c .refusal-len .ensures) (c .as-mut-slice .ensures .len) (c .write-refusal .ensures)
