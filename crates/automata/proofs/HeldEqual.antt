@@ -22,7 +22,7 @@ use Rattle.automata.proofs.SetLaws.{same-members, same-bits}
 use Rattle.automata.proofs.ShownLaws.{sign-count, shown-size}
 
 -- what stands before the count, and 0 past it, fixes all places
-filled : (m n : ℕ) (xs ys : List ℕ) → length xs ≡ m → length ys ≡ m → take n xs ≡ take n ys → BlankPast xs n → BlankPast ys n → xs ≡ ys
+pub filled : (m n : ℕ) (xs ys : List ℕ) → length xs ≡ m → length ys ≡ m → take n xs ≡ take n ys → BlankPast xs n → BlankPast ys n → xs ≡ ys
 filled m n xs ys lx ly e bx by =
     ext-getD 0 xs ys (lx ∙ sym ly)
     (λ k l. elim (cases-lt k n) [

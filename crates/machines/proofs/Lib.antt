@@ -1,0 +1,14 @@
+pub mod Numbers
+pub mod Injections
+pub mod Orders
+pub mod Walks
+pub mod FirstWords
+pub mod Spreads
+pub mod Growing
+pub mod Lockstep
+pub mod OneTable
+pub mod Mapping
+pub mod Reading
+pub mod Counting
+pub mod Finding
+pub mod Building

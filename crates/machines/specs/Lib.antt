@@ -1,0 +1,4 @@
+pub mod Models
+pub mod Tables
+pub mod Built
+pub mod BuildLaws

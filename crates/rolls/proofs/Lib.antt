@@ -1,0 +1,4 @@
+pub mod Blanks
+pub mod Differing
+pub mod RollLaws
+pub mod TwoPlaced

@@ -1,0 +1,3 @@
+// Transition tables with values, and one build for every machine.
+pub mod grid;
+pub mod table;
