@@ -10,4 +10,4 @@ use Rattle.std.proofs.shelf.Lists.{ext-getD, getD-replicate, length-replicate}
 pub all-blank : {S : Type 0} (d : S) (es : List S) (n : ℕ) → length es ≡ n → ((k : ℕ) → k < n → getD es k d ≡ d) → es ≡ replicate n d
 all-blank d es n long blanks =
     ext-getD d es (replicate n d) (long ∙ sym (length-replicate n d))
-        (λ k h. let l : k < n = omega arith in blanks k l ∙ sym (getD-replicate n k d d l))
+    (λ k h. let l : k < n = omega arith in blanks k l ∙ sym (getD-replicate n k d d l))

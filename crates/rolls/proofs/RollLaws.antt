@@ -1,32 +1,30 @@
 -- What a user of a roll knows after placing an entry.
 use mathlib.Core.Path.{_≡_, refl, sym, ap, subst, _∙_}
+use mathlib.Core.Bool.{false}
 use mathlib.Core.List.{List}
-use mathlib.Core.Logic.{_⊎_, inl, inr, ⊎-elim, _≢_}
+use mathlib.Core.Logic.{_⊎_, ⊎-elim, _≢_}
 use Prim.Native.Nat.{ℕ, _≤_, _<_, _+_}
 use native.Mathlib.Omega.{arith}
 use lib.ListN.{length, getD, set}
 use Rattle.std.proofs.shelf.Lists.{length-set, getD-set-same, getD-set-other}
-use mathlib.Core.Bool.{false}
 use Rattle.std.specs.Results.{isOk}
 use Rattle.std.specs.declared.result.Result.{Result}
 use Rattle.std.specs.declared.result.Result.the-variants.{Ok, Err}
-use Rattle.rolls.specs.Rolls.{Different, Absent, Found, Added, Full, Placed}
+use Rattle.rolls.specs.Rolls.{Different, Absent, Found, Added, Placed}
 use Rattle.rolls.proofs.Differing.{different-added, different-numbers}
 
 -- es, n: the entries before and how many are in use; es′, n′: after
 module _ {S : Type 0} (x d : S) (es : List S) (n : ℕ) (es′ : List S) (n′ : ℕ) where
-
   -- the entry stands at the answered number, which is in use
   pub placed-there : (i : ℕ) → Found x d es n es′ n′ i ⊎ Added x d es n es′ n′ i → (i < n′) × (getD es′ i d ≡ x)
   placed-there i w = ⊎-elim
       (λ (f : Found x d es n es′ n′ i). (omega arith, ap (λ l. getD l i d) (f .kept) ∙ f .there))
       (λ (f : Added x d es n es′ n′ i).
-        (omega arith, ap (λ l. getD l i d) (f .grown) ∙ ap (λ k. getD (set es n x) k d) (f .at) ∙ getD-set-same es n x d (f .room)))
+      (omega arith, ap (λ l. getD l i d) (f .grown) ∙ ap (λ k. getD (set es n x) k d) (f .at) ∙ getD-set-same es n x d (f .room)))
       w
 
 -- whatever was answered
 module _ {S E : Type 0} (x d : S) (es : List S) (n : ℕ) (es′ : List S) (n′ : ℕ) where
-
   -- the list keeps its length
   pub placed-long : (r : Result ℕ E) → Placed x d es n es′ n′ r → length es′ ≡ length es
   placed-long (Ok i) w = ⊎-elim
@@ -68,7 +66,7 @@ module _ {S E : Type 0} (x d : S) (es : List S) (n : ℕ) (es′ : List S) (n′
   placed-free (Ok i) k h w = ⊎-elim
       (λ (f : Found x d es n es′ n′ i). ap (λ l. getD l k d) (f .kept))
       (λ (f : Added x d es n es′ n′ i).
-        let ne : k ≢ n = omega arith in ap (λ l. getD l k d) (f .grown) ∙ getD-set-other es n k x d ne)
+      let ne : k ≢ n = omega arith in ap (λ l. getD l k d) (f .grown) ∙ getD-set-other es n k x d ne)
       w
   placed-free (Err e) k h f = ap (λ l. getD l k d) (f .kept)
 
@@ -76,10 +74,10 @@ module _ {S E : Type 0} (x d : S) (es : List S) (n : ℕ) (es′ : List S) (n′
   pub placed-different : (r : Result ℕ E) → Placed x d es n es′ n′ r → Different es n → Different es′ n′
   placed-different (Ok i) w old = ⊎-elim
       (λ (f : Found x d es n es′ n′ i).
-        subst (λ (l : List S). Different l n′) (sym (f .kept)) (subst (λ (k : ℕ). Different es k) (sym (f .long)) old))
+      subst (λ (l : List S). Different l n′) (sym (f .kept)) (subst (λ (k : ℕ). Different es k) (sym (f .long)) old))
       (λ (f : Added x d es n es′ n′ i).
-        subst (λ (l : List S). Different l n′) (sym (f .grown))
-          (subst (λ (k : ℕ). Different (set es n x) k) (sym (f .long)) (different-added x d es n (f .room) (f .absent) old)))
+      subst (λ (l : List S). Different l n′) (sym (f .grown))
+      (subst (λ (k : ℕ). Different (set es n x) k) (sym (f .long)) (different-added x d es n (f .room) (f .absent) old)))
       w
   placed-different (Err e) f old =
       subst (λ (l : List S). Different l n′) (sym (f .kept)) (subst (λ (k : ℕ). Different es k) (sym (f .long)) old)
@@ -88,7 +86,7 @@ module _ {S E : Type 0} (x d : S) (es : List S) (n : ℕ) (es′ : List S) (n′
   pub placed-again : (r : Result ℕ E) (k : ℕ) → Different es n → k < n → getD es k d ≡ x → Placed x d es n es′ n′ r → (r ≡ Ok k) × (es′ ≡ es) × (n′ ≡ n)
   placed-again (Ok i) k old h e w = ⊎-elim
       (λ (f : Found x d es n es′ n′ i).
-        let same : i ≡ k = different-numbers d es n i k old (f .below) h (f .there ∙ sym e) in (cc, f .kept, f .long))
+      let same : i ≡ k = different-numbers d es n i k old (f .below) h (f .there ∙ sym e) in (cc, f .kept, f .long))
       (λ (f : Added x d es n es′ n′ i). absurd (f .absent k h e))
       w
   placed-again (Err u) k old h e f = absurd (f .absent k h e)

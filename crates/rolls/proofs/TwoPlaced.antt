@@ -1,8 +1,8 @@
 -- What two placings leave of a roll in which no entry was in use.
-use mathlib.Core.Path.{_≡_, refl, sym, ap, subst, _∙_}
+use mathlib.Core.Path.{_≡_, sym, ap, subst, _∙_}
 use mathlib.Core.Bool.{false}
 use mathlib.Core.List.{List}
-use Prim.Native.Nat.{ℕ, _<_, _+_}
+use Prim.Native.Nat.{ℕ, _<_}
 use native.Mathlib.Omega.{arith}
 use lib.ListN.{length, getD, set}
 use Rattle.std.proofs.shelf.Lists.{length-set, getD-set-same}
@@ -16,7 +16,6 @@ use Rattle.rolls.proofs.RollLaws.{placed-new, placed-again, placed-refused, pl
 -- es, n: as the roll was before; es₁, n₁ after x was placed; es₂, n₂ after y was placed too
 module _ {S E : Type 0} (x y d : S) (es : List S) (n : ℕ) (es₁ : List S) (n₁ : ℕ) (es₂ : List S) (n₂ : ℕ) (r s : Result ℕ E)
     (none : n ≡ 0) (some : 0 < length es) (first : Placed x d es n es₁ n₁ r) (second : Placed y d es₁ n₁ es₂ n₂ s) where
-
   pub first-placed : (r ≡ Ok 0) × (es₁ ≡ set es 0 x) × (n₁ ≡ 1)
   first-placed =
       let absent : Absent x d es n = λ k h. absurd (omega arith) in

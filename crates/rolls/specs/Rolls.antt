@@ -29,6 +29,11 @@ abbrev pub Searched : {S : Type 0} → S → S → List S → ℕ → Option ℕ
 Searched x d es n (Some i) = First x d es n i
 Searched x d es n None = Absent x d es n
 
+-- where none was found and an entry is free, x may be added: the entries stay different
+abbrev pub Addable : {S : Type 0} → S → List S → ℕ → Option ℕ → Type 0
+Addable x es n (Some i) = Unit {0}
+Addable x es n None = n < length es → Different (set es n x) (n + 1)
+
 -- the entry numbered i where it is one of the first n, else none
 abbrev pub Got : {S : Type 0} → S → List S → ℕ → ℕ → Option (RefT S) → Type 0
 Got d es n i (Some e) = (i < n) × (now e ≡ getD es i d)

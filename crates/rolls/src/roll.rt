@@ -2,7 +2,7 @@ ghost use mathlib.Core.Path.{_≡_};
 ghost use Prim.Native.Nat.{_≤_};
 ghost use lib.ListN.{length, replicate};
 ghost use denote.Ref.{name, now};
-ghost use Rattle.rolls.specs.Rolls.{Different, Searched, Placed, Got};
+ghost use Rattle.rolls.specs.Rolls.{Addable, Different, Got, Placed, Searched};
 use crate::fault::RollFault;
 use crate::state::State;
 
@@ -75,7 +75,8 @@ impl<'a, T: State> Roll<'a, T> {
 
     // The number of the first entry in use that equals `x`, or none.
     fn position(&self, x: &T) -> Option<usize>
-        ensures { λ r. ⌜ Searched (now (x .entry)) blank (now (now (self .entry) .entries)) (now (self .entry) .len) r ⌝ }
+        ensures first { λ r. ⌜ Searched (now (x .entry)) blank (now (now (self .entry) .entries)) (now (self .entry) .len) r ⌝ }
+        ensures addable { λ r. ⌜ Addable (now (x .entry)) (now (now (self .entry) .entries)) (now (self .entry) .len) r ⌝ }
     {
         let es = &*self.entries;
         for i in 0..self.len {

@@ -1,2 +1,6 @@
 pub mod Held
 pub mod Shown
+pub mod Filling
+pub mod Builds
+pub mod Steps
+pub mod TableLaws

@@ -1,3 +1,4 @@
 // Transition tables with values, and one build for every machine.
 pub mod grid;
+pub mod laws;
 pub mod table;

@@ -1,5 +1,5 @@
 use mathlib.Core.Path.{_≡_, ap, _∙_}
-use Prim.Native.Nat.{ℕ, _<_}
+use Prim.Native.Nat.{ℕ}
 use native.Mathlib.Omega.{arith}
 use lib.ListN.{length, set, replicate}
 use borrow.Author.Needs.{needs}
@@ -18,11 +18,11 @@ returns c =
     let two = c .place-2 .last .self in
     record {
       equal = λ e.
-        equal-placed x y 0 es (c .fresh-roll .result .len) (one .entries .now) (one .len) (two .entries .now) (two .len) (c .place .result) (c .place-2 .result)
+          equal-placed x y 0 es (c .fresh-roll .result .len) (one .entries .now) (one .len) (two .entries .now) (two .len) (c .place .result) (c .place-2 .result)
           (c .fresh-roll .ensures .len) (omega arith) (c .place .ensures .placed) (c .place-2 .ensures .placed) e .1
-        ∙ ap (λ l. set l 0 x) blank;
+          ∙ ap (λ l. set l 0 x) blank;
       apart = λ ne.
-        other-placed x y 0 es (c .fresh-roll .result .len) (one .entries .now) (one .len) (two .entries .now) (two .len) (c .place .result) (c .place-2 .result)
+          other-placed x y 0 es (c .fresh-roll .result .len) (one .entries .now) (one .len) (two .entries .now) (two .len) (c .place .result) (c .place-2 .result)
           (c .fresh-roll .ensures .len) (omega arith) (c .place .ensures .placed) (c .place-2 .ensures .placed) ne (omega arith) .1
-        ∙ ap (λ l. set (set l 0 x) 1 y) blank;
+          ∙ ap (λ l. set (set l 0 x) 1 y) blank;
     }

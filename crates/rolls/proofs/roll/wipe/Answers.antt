@@ -1,4 +1,3 @@
-use Prim.Native.Nat.{ℕ, _<_}
 use native.Mathlib.Omega.{arith}
 use lib.ListN.{length}
 use borrow.Author.Needs.{needs}
@@ -8,4 +7,4 @@ use Rattle.rolls.proofs.roll.wipe.Needs as need
 pub returns : need.returns
 returns g c =
     all-blank (g .T·State .blank) (c .loop-e .entries) (length (c .args .entries .now)) (search needs)
-        (λ k h. c .loop-e .inv k (omega arith))
+    (λ k h. c .loop-e .inv k (omega arith))

@@ -1,0 +1,16 @@
+use mathlib.Core.Path.{_≡_}
+use Prim.Native.Nat.{_-_, _≤_}
+use lib.ListN.{length}
+use denote.Ref.{now, name}
+use Rattle.tables.specs.Filling.{Filling}
+use Rattle.tables.proofs.grid.building.walk.Given as given
+
+abbrev pub Inv-loop-i : given.InvT-loop-i
+Inv-loop-i g l =
+    (name (l .roll .entries) ≡ name (l .entry .roll .entries))
+    × (length (now (l .roll .entries)) ≡ length (now (l .entry .roll .entries)))
+    × (l .i ≤ l .roll .len)
+    × Filling (g .M·Machine .meaning (l .machine)) (g .State·State .blank) (now (l .roll .entries)) (l .roll .len) (l .values) (l .i) (l .next) (l .i) 0
+
+abbrev pub μ-loop-i : given.MeasureT-loop-i
+μ-loop-i g l = 128 - l .i
