@@ -6,6 +6,7 @@ ghost use Rattle.automata.specs.Drafts.{size, isState};
 ghost use Rattle.automata.specs.Shown.{shown};
 use crate::automaton::Automaton;
 use crate::sets::StateSet;
+use crate::signs::Signs;
 
 impl Automaton {
     pub fn state_count(&self) -> usize
@@ -18,6 +19,13 @@ impl Automaton {
         ensures { λ r. ⌜ now r ≡ shown (now (self .entry)) .signs ⌝ }
     {
         self.signs.as_slice()
+    }
+
+    // The signs whole, as they were checked.
+    pub fn sign_list(&self) -> Signs
+        ensures { λ r. ⌜ r ≡ now (self .entry) .signs ⌝ }
+    {
+        self.signs
     }
 
     // The code of a state, where there is such a state.

@@ -1,0 +1,4 @@
+pub mod Absent
+pub mod ThoseLaws
+pub mod ColouredLaws
+pub mod Loops

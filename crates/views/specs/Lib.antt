@@ -1,0 +1,5 @@
+pub mod Accepted
+pub mod Colourings
+pub mod DraftViews
+pub mod TableViews
+pub mod Those
