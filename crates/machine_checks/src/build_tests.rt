@@ -1,8 +1,8 @@
+use crate::counter::Counter;
+use crate::counter::CounterMachine;
 use automata::faults::SignFault;
 use automata::faults::SignFaultDebug;
 use automata::signs::Signs;
-use crate::counter::Counter;
-use crate::counter::CounterMachine;
 use kinds::yes_no::Y;
 use kinds::yes_no::YKind;
 use machines::machine::Machine;

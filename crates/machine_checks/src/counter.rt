@@ -14,6 +14,7 @@ pub struct Counter {
 
 pub impl Machine for Counter as CounterMachine {
     type State = u64;
+
     type Kind = Y;
 
     ghost meaning = { λ c. counter (c .signs) (c .limit) };

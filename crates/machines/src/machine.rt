@@ -14,6 +14,7 @@ use rolls::state::State;
 // the state as it is, and each value is admitted.
 pub trait Machine {
     type State: State;
+
     type Kind: Kind;
 
     ghost meaning: { Self → MachineModel Self·State };

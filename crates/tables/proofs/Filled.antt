@@ -44,18 +44,19 @@ module _ {S : Type 0} (m : MachineModel S) (d : S) (es : List S) (len : ℕ) (vs
   pub filled-below : RowsBlank rows n
   filled-below i a l =
       elim (cases-lt a (alphabet m)) [
-        inl la ↦ g .unfilled i a la (omega (arith, mul-le-mul-right (alphabet m) l))
-      | inr past ↦ g .beside i a past ]
+        | inl la ↦ g .unfilled i a la (omega (arith, mul-le-mul-right (alphabet m) l))
+        | inr past ↦ g .beside i a past
+      ]
 
   pub filled-built : (t : Grid) → t .count ≡ n → t .values ≡ vs → t .next ≡ rows → t .signs .count ≡ alphabet m → Built m (shown t) (take len es)
   filled-built t c v r k =
       let z : n * alphabet m + 0 ≡ n * alphabet m = omega arith in
       let w = grown-walked (g .grown) (omega (arith, found)) (length-take-le n vs (omega (arith, g .wide, g .few)) ∙ (e ∙ sym found)) in
       let table : record { values = take n vs; cells = cellsUpTo (alphabet m) rows (n * alphabet m + 0) } ≡ shown t =
-            ap₂ (λ (xs ys : List ℕ). record { values = xs; cells = ys })
-              (sym (ap₂ take c v))
-              (ap (cellsUpTo (alphabet m) rows) z
-                ∙ sym (λ i. tabulate (c i * k i) (λ l. cell (r i) (l / k i) (l % k i)))) in
+      ap₂ (λ (xs ys : List ℕ). record { values = xs; cells = ys })
+      (sym (ap₂ take c v))
+      (ap (cellsUpTo (alphabet m) rows) z
+      ∙ sym (λ i. tabulate (c i * k i) (λ l. cell (r i) (l / k i) (l % k i)))) in
       subst (λ (u : TableModel). Built m u (take len es)) table (walked-built w)
 
 -- the number of letters, by the signs that a machine hands out

@@ -46,20 +46,24 @@ cells-more n rows i a c la li lc =
     ap (cellsUpTo n (written rows i a c)) e
     ∙ (tabulate-more (i * n + a) (λ l. cell (written rows i a c) (l / n) (l % n))
     ∙ ap₂ (λ (xs : List ℕ) (y : ℕ). xs ++ y ∷ [])
-        (is-tabulate 0 (i * n + a) (λ l. cell rows (l / n) (l % n)) (cellsUpTo n (written rows i a c) (i * n + a)) (length-tabulate (i * n + a) _)
-          (λ k lk. getD-tabulate (i * n + a) (λ l. cell (written rows i a c) (l / n) (l % n)) k 0 lk ∙ earlier k lk))
-        (cell-at (written rows i a c) n i a la ∙ (written-ends rows i a c li lc i a ∙ here)))
+    (is-tabulate 0 (i * n + a) (λ l. cell rows (l / n) (l % n)) (cellsUpTo n (written rows i a c) (i * n + a)) (length-tabulate (i * n + a) _)
+    (λ k lk. getD-tabulate (i * n + a) (λ l. cell (written rows i a c) (l / n) (l % n)) k 0 lk ∙ earlier k lk))
+    (cell-at (written rows i a c) n i a la ∙ (written-ends rows i a c li lc i a ∙ here)))
   where
     here : cond (eqb i i && eqb a a) c (cell rows i a) ≡ c
     here = rw (eq-eqb i i refl, eq-eqb a a refl) refl
+
     other : (p b : ℕ) → (p ≡ i → b ≡ a → ⊥) → cell (written rows i a c) p b ≡ cell rows p b
     other p b ne =
         written-ends rows i a c li lc p b
         ∙ elim (cases-eq p i) [
-            inl e ↦ elim (cases-eq b a) [
-              inl f ↦ absurd (ne e f)
-            | inr nb ↦ rw (e, eq-eqb i i refl, ne-eqb b a nb) refl ]
-          | inr np ↦ rw (ne-eqb p i np) refl ]
+          | inl e ↦ elim (cases-eq b a) [
+            | inl f ↦ absurd (ne e f)
+            | inr nb ↦ rw (e, eq-eqb i i refl, ne-eqb b a nb) refl
+          ]
+          | inr np ↦ rw (ne-eqb p i np) refl
+        ]
+
     earlier : (k : ℕ) → k < i * n + a → cell (written rows i a c) (k / n) (k % n) ≡ cell rows (k / n) (k % n)
     earlier k lk = other (k / n) (k % n) (λ e f.
         let z : i * n + a ≡ k = sym (ap₂ (λ (x y : ℕ). x * n + y) e f) ∙ div-add-mod' k n in omega arith)
@@ -78,7 +82,7 @@ module _ {S : Type 0} (m : MachineModel S) (d : S) (es : List S) (len : ℕ) (vs
       let lt : length (take v vs) ≡ v = length-take-le v vs (omega arith) in
       record {
         grown = subst (λ (ws : List ℕ). Grown m (take len es) ws (cellsUpTo (alphabet m) rows (i * alphabet m + a)) i a) (sym (take-more-set vs v x lv))
-          (grown-value (g .grown) x (omega (arith, lt, states-long)) (e ∙ ap (m .value) (sym (ap (entry m (take len es)) lt ∙ state-is v l))));
+            (grown-value (g .grown) x (omega (arith, lt, states-long)) (e ∙ ap (m .value) (sym (ap (entry m (take len es)) lt ∙ state-is v l))));
         few = g .few;
         within = g .within;
         fresh = g .fresh;
@@ -102,16 +106,18 @@ module _ {S : Type 0} (m : MachineModel S) (d : S) (es : List S) (len : ℕ) (vs
   other-cell c l la p b ne =
       written-ends rows i a c (in-row l) (in-column l la) p b
       ∙ elim (cases-eq p i) [
-          inl e ↦ elim (cases-eq b a) [
-            inl f ↦ absurd (ne e f)
-          | inr nb ↦ rw (e, eq-eqb i i refl, ne-eqb b a nb) refl ]
-        | inr np ↦ rw (ne-eqb p i np) refl ]
+        | inl e ↦ elim (cases-eq b a) [
+          | inl f ↦ absurd (ne e f)
+          | inr nb ↦ rw (e, eq-eqb i i refl, ne-eqb b a nb) refl
+        ]
+        | inr np ↦ rw (ne-eqb p i np) refl
+      ]
 
   -- the letter leads to a state that is known, number c
   pub filling-known : (c : ℕ) → i < len → a < alphabet m → c < len → m .step (getD es i d) a ≡ getD es c d → Filling m d es len vs v (written rows i a c) i (a + 1)
   filling-known c l la lc e = record {
     grown = subst (λ (cs : List ℕ). Grown m (take len es) (take v vs) cs i (a + 1)) (sym (cells-more (alphabet m) rows i a c la (in-row l) (in-column l la)))
-      (grown-known (g .grown) c (omega (arith, states-long)) la (omega (arith, states-long))
+        (grown-known (g .grown) c (omega (arith, states-long)) la (omega (arith, states-long))
         (ap (λ (s : S). m .step s a) (state-is i l) ∙ (e ∙ sym (state-is c lc))));
     few = g .few;
     within = g .within;
@@ -134,7 +140,7 @@ module _ {S : Type 0} (m : MachineModel S) (d : S) (es : List S) (len : ℕ) (vs
       → Filling m d (set es len s) (len + 1) vs v (written rows i a len) i (a + 1)
   filling-new s l la e absent room small = record {
     grown = subst (λ (xs : List S). Grown m xs (take v vs) (cellsUpTo (alphabet m) (written rows i a len) (i * alphabet m + (a + 1))) i (a + 1)) (sym (take-more-set es len s room))
-      (subst (λ (cs : List ℕ). Grown m (take len es ++ s ∷ []) (take v vs) cs i (a + 1))
+        (subst (λ (cs : List ℕ). Grown m (take len es ++ s ∷ []) (take v vs) cs i (a + 1))
         (ap (λ (c : ℕ). cellsUpTo (alphabet m) rows (i * alphabet m + a) ++ c ∷ []) states-long ∙ sym (cells-more (alphabet m) rows i a len la (in-row l) (in-column l la)))
         (grown-new (g .grown) s (omega (arith, states-long)) la (ap (λ (s : S). m .step s a) (state-is i l) ∙ e) (new-state s absent)));
     few = omega arith;
@@ -153,7 +159,7 @@ module _ {S : Type 0} (m : MachineModel S) (d : S) (es : List S) (len : ℕ) (vs
   pub filling-over : (s : S) → i < len → a < alphabet m → m .step (getD es i d) a ≡ s → ((k : ℕ) → k < len → getD es k d ≡ s → ⊥) → Spread m (len + 1)
   filling-over s l la e absent =
       subst (λ (k : ℕ). Spread m (k + 1)) states-long
-        (grown-more (g .grown) s (omega (arith, states-long)) la (ap (λ (s : S). m .step s a) (state-is i l) ∙ e) (new-state s absent))
+      (grown-more (g .grown) s (omega (arith, states-long)) la (ap (λ (s : S). m .step s a) (state-is i l) ∙ e) (new-state s absent))
 
   -- a row is done
   pub filling-row : a ≡ alphabet m → Filling m d es len vs v rows (i + 1) 0
@@ -183,7 +189,7 @@ filling-start {S} m d s es room e h l =
     let none : 0 ≡ 0 * alphabet m + 0 = omega arith in
     record {
       grown = subst (λ (xs : List S). Grown m xs [] (cellsUpTo (alphabet m) noCells (0 * alphabet m + 0)) 0 0) (sym one)
-        (subst (λ (k : ℕ). Grown m (m .start ∷ []) [] (cellsUpTo (alphabet m) noCells k) 0 0) none grown-start);
+          (subst (λ (k : ℕ). Grown m (m .start ∷ []) [] (cellsUpTo (alphabet m) noCells k) 0 0) none grown-start);
       few = omega arith;
       within = omega arith;
       fresh = λ k lk. ap (λ (xs : List S). getD xs k d) h ∙ (getD-set-other (replicate room d) 0 k s d (λ x. omega arith) ∙ blanks room k d);
@@ -191,7 +197,7 @@ filling-start {S} m d s es room e h l =
       bytes = λ k. omega (arith, blanks {A = ℕ} 128 k 0);
       unvalued = λ k lk. blanks {A = ℕ} 128 k 0;
       tall = length-replicate 128 (replicate {A = ℕ} 16 0);
-      columns = λ i li. ap length (row-none i (omega (arith, length-replicate 128 (replicate {A = ℕ} 16 0)))) ;
+      columns = λ i li. ap length (row-none i (omega (arith, length-replicate 128 (replicate {A = ℕ} 16 0))));
       unfilled = λ p b lb lk. cell-none p b;
       beside = λ p b lk. cell-none p b;
     }
@@ -209,13 +215,13 @@ module _ {S : Type 0} (m : MachineModel S) (d : S) (es : List S) (len : ℕ) (vs
   pub placed-filling : (k : ℕ) → Found s d es len es′ len′ k ⊎ Added s d es len es′ len′ k → k < 128 → Filling m d es′ len′ vs v (written rows i a k) i (a + 1)
   placed-filling k (inl f) l =
       subst (λ (xs : List S). Filling m d xs len′ vs v (written rows i a k) i (a + 1)) (sym (f .kept))
-        (subst (λ (n : ℕ). Filling m d es n vs v (written rows i a k) i (a + 1)) (sym (f .long))
-          (filling-known m d es len vs v rows i a g k li la (f .below) (sym e ∙ sym (f .there))))
+      (subst (λ (n : ℕ). Filling m d es n vs v (written rows i a k) i (a + 1)) (sym (f .long))
+      (filling-known m d es len vs v rows i a g k li la (f .below) (sym e ∙ sym (f .there))))
   placed-filling k (inr f) l =
       subst (λ (xs : List S). Filling m d xs len′ vs v (written rows i a k) i (a + 1)) (sym (f .grown))
-        (subst (λ (n : ℕ). Filling m d (set es len s) n vs v (written rows i a k) i (a + 1)) (sym (f .long))
-          (subst (λ (j : ℕ). Filling m d (set es len s) (len + 1) vs v (written rows i a j) i (a + 1)) (sym (f .at))
-            (filling-new m d es len vs v rows i a g s li la (sym e) (f .absent) (f .room) (omega (arith, f .at)))))
+      (subst (λ (n : ℕ). Filling m d (set es len s) n vs v (written rows i a k) i (a + 1)) (sym (f .long))
+      (subst (λ (j : ℕ). Filling m d (set es len s) (len + 1) vs v (written rows i a j) i (a + 1)) (sym (f .at))
+      (filling-new m d es len vs v rows i a g s li la (sym e) (f .absent) (f .room) (omega (arith, f .at)))))
 
   -- it stands past the last number of a table
   pub placed-past : (k : ℕ) → Found s d es len es′ len′ k ⊎ Added s d es len es′ len′ k → 128 ≤ k → Spread m (suc (min 128 (length es′)))
@@ -239,9 +245,9 @@ module _ {S : Type 0} (m : MachineModel S) (d s : S) (es : List S) (len : ℕ) (
       let one : len′ ≡ 1 = omega (arith, f .long) in
       let es-is : es′ ≡ set (replicate (length es) d) 0 s = f .grown ∙ ap₂ (λ (xs : List S) (n : ℕ). set xs n s) blank none in
       subst (λ (n : ℕ). Filling m d es′ n vs 0 rows 0 0) (sym one)
-        (subst (λ (ws : List ℕ). Filling m d es′ 1 ws 0 rows 0 0) (sym ev)
-          (subst (λ (rs : List (List ℕ)). Filling m d es′ 1 (replicate 128 0) 0 rs 0 0) (sym er)
-            (filling-start m d s es′ (length es) e es-is (omega (arith, f .room)))))
+      (subst (λ (ws : List ℕ). Filling m d es′ 1 ws 0 rows 0 0) (sym ev)
+      (subst (λ (rs : List (List ℕ)). Filling m d es′ 1 (replicate 128 0) 0 rs 0 0) (sym er)
+      (filling-start m d s es′ (length es) e es-is (omega (arith, f .room)))))
 
   pub first-full : Full s d es len es′ len′ → Spread m (suc (min 128 (length es′)))
   first-full f =

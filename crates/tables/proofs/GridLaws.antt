@@ -41,7 +41,7 @@ module _ (t : Grid) where
       → Some r ≡ cond (ltb i (count (shown t)) && ltb a (length (signList (t .signs)))) (Some (next (length (signList (t .signs))) (shown t) i a)) None
   next-is i a r li la e =
       let yes : (ltb i (count (shown t)) && ltb a (length (signList (t .signs)))) ≡ true =
-            and-from _ _ (lt-ltb i (count (shown t)) (rw shown-count li)) (lt-ltb a (length (signList (t .signs))) (rw (sign-count (t .signs)) la)) in
+      and-from _ _ (lt-ltb i (count (shown t)) (rw shown-count li)) (lt-ltb a (length (signList (t .signs))) (rw (sign-count (t .signs)) la)) in
       ap Some (e ∙ (sym (shown-next i a li la) ∙ ap (λ (n : ℕ). next n (shown t) i a) (sym (sign-count (t .signs))))) ∙ sym (cond-true _ _ None yes)
 
 -- no cell but 0
@@ -57,8 +57,9 @@ row-none i l = getD-replicate 128 i (replicate 16 0) [] l
 pub cell-none : (i a : ℕ) → cell noCells i a ≡ 0
 cell-none i a =
     elim (cases-lt i 128) [
-      inl l ↦ ap (λ (r : List ℕ). getD r a 0) (row-none i l) ∙ zeros 16 a
-    | inr g ↦ ap (λ (r : List ℕ). getD r a 0) (getD-past noCells i [] (simp length-replicate g)) ]
+      | inl l ↦ ap (λ (r : List ℕ). getD r a 0) (row-none i l) ∙ zeros 16 a
+      | inr g ↦ ap (λ (r : List ℕ). getD r a 0) (getD-past noCells i [] (simp length-replicate g))
+    ]
 
 -- the places of a blank grid
 pub first-bytes : (v : ℕ) → v < 256 → Bytes (v ∷ replicate 127 0)
@@ -74,7 +75,7 @@ blank-cells n =
     let e : 1 * n ≡ n = omega arith in
     ap (λ (m : ℕ). tabulate m (λ k. cell noCells (k / n) (k % n))) e
     ∙ sym (is-tabulate 0 n (λ k. cell noCells (k / n) (k % n)) (replicate n 0) (length-replicate n 0)
-        (λ i l. getD-replicate n i 0 0 l ∙ sym (cell-none (i / n) (i % n))))
+    (λ i l. getD-replicate n i 0 0 l ∙ sym (cell-none (i / n) (i % n))))
 
 grid-by : (t u : Grid) → t .signs ≡ u .signs → t .count ≡ u .count → t .values ≡ u .values → t .next ≡ u .next → t ≡ u
 grid-by t u s n v r = λ i. record {
@@ -97,13 +98,15 @@ grid-by t u s n v r = λ i. record {
 same-cells : (t u : Grid) → t .count ≡ u .count → t .signs .count ≡ u .signs .count → shown t .cells ≡ shown u .cells → (i a : ℕ) → cell (t .next) i a ≡ cell (u .next) i a
 same-cells t u n m e i a =
     elim (cases-lt i (t .count)) [
-      inl li ↦ elim (cases-lt a (t .signs .count)) [
-        inl la ↦
-          sym (shown-next t i a li la)
-          ∙ (ap (λ (cs : List ℕ). getD cs (i * t .signs .count + a) 0) e
-          ∙ (ap (λ (k : ℕ). getD (shown u .cells) (i * k + a) 0) m ∙ shown-next u i a (omega arith) (omega arith)))
-      | inr ga ↦ t .beside i a ga ∙ sym (u .beside i a (omega arith)) ]
-    | inr gi ↦ t .below i a gi ∙ sym (u .below i a (omega arith)) ]
+      | inl li ↦ elim (cases-lt a (t .signs .count)) [
+        | inl la ↦
+            sym (shown-next t i a li la)
+            ∙ (ap (λ (cs : List ℕ). getD cs (i * t .signs .count + a) 0) e
+            ∙ (ap (λ (k : ℕ). getD (shown u .cells) (i * k + a) 0) m ∙ shown-next u i a (omega arith) (omega arith)))
+        | inr ga ↦ t .beside i a ga ∙ sym (u .beside i a (omega arith))
+      ]
+      | inr gi ↦ t .below i a gi ∙ sym (u .below i a (omega arith))
+    ]
 
 -- Two grids with the same signs that show the same table are equal, past the counts too.
 pub same-grid : (t u : Grid) → signList (t .signs) ≡ signList (u .signs) → shown t ≡ shown u → t ≡ u
@@ -111,9 +114,9 @@ same-grid t u s h =
     let n : t .count ≡ u .count = sym (shown-count t) ∙ (ap count h ∙ shown-count u) in
     let signs : t .signs ≡ u .signs = same-signs (t .signs) (u .signs) s in
     grid-by t u signs n
-      (filled 128 (t .count) (t .values) (u .values) (t .wide) (u .wide)
-        (ap (λ (m : TableModel). m .values) h ∙ ap (λ (k : ℕ). take k (u .values)) (sym n)) (t .blank) (λ k l. u .blank k (omega arith)))
-      (ext-getD [] (t .next) (u .next) (t .rows ∙ sym (u .rows))
-        (λ i l. let lu : i < length (u .next) = omega (arith, t .rows, u .rows) in
-          ext-getD 0 (getD (t .next) i []) (getD (u .next) i []) (t .columns i l ∙ sym (u .columns i lu))
-            (λ a la. same-cells t u n (ap (λ (x : Signs). x .count) signs) (ap (λ (m : TableModel). m .cells) h) i a)))
+    (filled 128 (t .count) (t .values) (u .values) (t .wide) (u .wide)
+    (ap (λ (m : TableModel). m .values) h ∙ ap (λ (k : ℕ). take k (u .values)) (sym n)) (t .blank) (λ k l. u .blank k (omega arith)))
+    (ext-getD [] (t .next) (u .next) (t .rows ∙ sym (u .rows))
+    (λ i l. let lu : i < length (u .next) = omega (arith, t .rows, u .rows) in
+    ext-getD 0 (getD (t .next) i []) (getD (u .next) i []) (t .columns i l ∙ sym (u .columns i lu))
+    (λ a la. same-cells t u n (ap (λ (x : Signs). x .count) signs) (ap (λ (m : TableModel). m .cells) h) i a)))

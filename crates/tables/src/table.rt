@@ -1,7 +1,7 @@
 ghost use mathlib.Core.Path.{_≡_};
 ghost use Rattle.tables.specs.Shown.{Blank};
-use automata::signs::Signs;
 use crate::grid::Grid;
+use automata::signs::Signs;
 use kinds::kind::Kind;
 use std::marker::PhantomData;
 
@@ -24,7 +24,10 @@ impl<K: Kind> Table<K> {
     pub fn of(grid: Grid) -> Table<K>
         ensures { λ r. ⌜ r .grid ≡ grid ⌝ }
     {
-        Table { grid, kind: PhantomData }
+        Table {
+            grid,
+            kind: PhantomData,
+        }
     }
 
     // What the table holds.

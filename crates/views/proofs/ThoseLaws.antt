@@ -32,11 +32,11 @@ has-bits (suc n) f (suc q) =
     ap (λ (k : ℕ). eqb (k % 2) 1) e ∙ has-bits n (λ k. f (suc k)) q ∙ ap (λ b. b && f (suc q)) (sym (leb·suc-suc (suc q) n))
 
 module _ (n : ℕ) (f : ℕ → Bool) where
-  has-those : (q : ℕ) → has (those n f) q ≡ (ltb q 32 && (ltb q n && f q))
+  -- the members
+  pub has-those : (q : ℕ) → has (those n f) q ≡ (ltb q 32 && (ltb q n && f q))
   unfolding those
   has-those q = has-bits 32 (λ p. ltb p n && f p) q
 
-  -- the members below 32
   pub those-has : (q : ℕ) → q < 32 → has (those n f) q ≡ (ltb q n && f q)
   those-has q l = has-those q ∙ ap (λ b. b && (ltb q n && f q)) (lt-ltb q 32 l)
 
@@ -78,4 +78,3 @@ those-more n f r own past = more
     more =
         let at : (q : ℕ) → q < 32 → has r q ≡ (ltb q (n + 1) && f q) = elim (cases-lt n 32) [ inl l ↦ below l | inr g ↦ beyond g ] in
         those-is (n + 1) f r at
-

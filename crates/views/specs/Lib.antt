@@ -3,3 +3,4 @@ pub mod Colourings
 pub mod DraftViews
 pub mod TableViews
 pub mod Those
+pub mod ViewLaws

@@ -7,11 +7,11 @@ ghost use Rattle.drafts.specs.Drawn.{drawn};
 ghost use Rattle.views.specs.Accepted.{accepted};
 ghost use Rattle.views.specs.Colourings.{coloured};
 ghost use Rattle.views.specs.DraftViews.{joinOver, codeAt, endsJoined, backwardDraft};
-use automata::automaton::Automaton;
-use automata::signs::Signs;
 use crate::colouring::Colouring;
 use crate::forward_draft::code_at;
 use crate::states::ColouringState;
+use automata::automaton::Automaton;
+use automata::signs::Signs;
 use drafts::draft::Draft;
 use kinds::kind::Kind;
 use machines::machine::Machine;
@@ -29,7 +29,12 @@ fn state_values<K: Kind>(automaton: &Automaton) -> Colouring
 }
 
 // The join of the codes of the ends of all arrows of the letter from one state.
-fn join_ends<K: Kind>(automaton: &Automaton, colouring: &Colouring, letter: usize, from: usize) -> u8
+fn join_ends<K: Kind>(
+    automaton: &Automaton,
+    colouring: &Colouring,
+    letter: usize,
+    from: usize,
+) -> u8
     ensures { λ r. ⌜ r ≡ endsJoined model (shown (now (automaton .entry))) (now (colouring .entry)) letter from ⌝ }
 {
     let count = automaton.state_count();
@@ -77,6 +82,7 @@ pub struct BackwardDraft<'a, K> {
 
 pub impl<'a, K: Kind> Machine for BackwardDraft<'a, K> as DraftColourings {
     type State = Colouring;
+
     type Kind = K;
 
     ghost meaning = { λ m. backwardDraft (K·Kind .model) (drawn (now (m .draft))) (accepted (now (m .draft) .automaton .signs)) };

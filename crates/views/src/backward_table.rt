@@ -7,11 +7,11 @@ ghost use Rattle.tables.specs.Shown.{shown};
 ghost use Rattle.views.specs.Accepted.{accepted};
 ghost use Rattle.views.specs.Colourings.{coloured};
 ghost use Rattle.views.specs.TableViews.{valueAt, nextCode, backwardTable};
-use automata::signs::Signs;
 use crate::colouring::Colouring;
 use crate::states::ColouringState;
 use crate::table_machine::next_state;
 use crate::table_machine::value_at;
+use automata::signs::Signs;
 use kinds::kind::Kind;
 use machines::machine::Machine;
 use tables::grid::Grid;
@@ -50,6 +50,7 @@ pub struct BackwardTable<'a, K> {
 
 pub impl<'a, K: Kind> Machine for BackwardTable<'a, K> as TableColourings {
     type State = Colouring;
+
     type Kind = K;
 
     ghost meaning = { λ m. backwardTable (K·Kind .model) (signList (now (m .table) .grid .signs)) (accepted (now (m .table) .grid .signs)) (shown (now (m .table) .grid)) };

@@ -17,7 +17,7 @@ impl Colouring {
         Colouring { codes: [code; 128] }
     }
 
-    // The code at a place; past the last place there is none.
+    // The code at a place; from place 128 on it is none.
     pub fn code<K: Kind>(&self, place: usize) -> u8
         ensures { λ r. ⌜ r ≡ getD (now (self .entry) .codes) place (model .none) ⌝ }
     {

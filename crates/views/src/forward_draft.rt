@@ -7,11 +7,11 @@ ghost use Rattle.drafts.specs.Drawn.{drawn};
 ghost use Rattle.views.specs.Accepted.{accepted};
 ghost use Rattle.views.specs.DraftViews.{joinOver, codeAt, leadsTo, forwardDraft};
 ghost use Rattle.views.specs.Those.{those};
+use crate::states::Reached;
+use crate::states::ReachedState;
 use automata::automaton::Automaton;
 use automata::sets::StateSet;
 use automata::signs::Signs;
-use crate::states::Reached;
-use crate::states::ReachedState;
 use drafts::draft::Draft;
 use kinds::kind::Kind;
 use machines::machine::Machine;
@@ -86,6 +86,7 @@ pub struct ForwardDraft<'a, K> {
 
 pub impl<'a, K: Kind> Machine for ForwardDraft<'a, K> as DraftSets {
     type State = Reached;
+
     type Kind = K;
 
     ghost meaning = { λ m. forwardDraft (K·Kind .model) (drawn (now (m .draft))) (accepted (now (m .draft) .automaton .signs)) };

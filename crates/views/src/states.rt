@@ -3,8 +3,8 @@ ghost use Rattle.std.specs.Orderings.{Decides};
 ghost use Rattle.automata.specs.Sets.{noStates};
 ghost use Rattle.views.specs.Colourings.{plain};
 ghost use Rattle.views.specs.Those.{reachedSet};
-use automata::sets::StateSet;
 use crate::colouring::Colouring;
+use automata::sets::StateSet;
 use rolls::state::State;
 
 // The set of the states to which a word may have led, as one state of a machine.

@@ -42,6 +42,7 @@ pub struct TableMachine<'a, K> {
 
 pub impl<'a, K: Kind> Machine for TableMachine<'a, K> as TableStates {
     type State = usize;
+
     type Kind = K;
 
     ghost meaning = { λ m. tableView (K·Kind .model) (signList (now (m .table) .grid .signs)) (accepted (now (m .table) .grid .signs)) (shown (now (m .table) .grid)) };

@@ -36,7 +36,12 @@ fn first_cell(grid: &Grid, state: usize) -> Option<(usize, u8)> {
 }
 
 // The first word that leads to a state, from those of the states before it.
-fn first_word(heap: Global, grid: &Grid, words: &Vec<String>, state: usize) -> Result<String, AnyError> {
+fn first_word(
+    heap: Global,
+    grid: &Grid,
+    words: &Vec<String>,
+    state: usize,
+) -> Result<String, AnyError> {
     let mut word = String::new(heap);
     if state > 0 {
         if let Some((row, sign)) = first_cell(grid, state) {
@@ -88,7 +93,15 @@ fn walk<K: Kind>(rt: &LibcRuntime, draft: &Draft<K>) -> Result<(), AnyError> {
     let mut roll = Roll::fresh(entries.as_mut_slice());
     match build(&machine, &mut table, &mut roll) {
         Ok(()) => print_rows(rt, table.grid()),
-        Err(fault) => print_refusal(rt, Refusal { number: fault.number(), line: 0, field: 0, inner: 0 }),
+        Err(fault) => print_refusal(
+            rt,
+            Refusal {
+                number: fault.number(),
+                line: 0,
+                field: 0,
+                inner: 0,
+            },
+        ),
     }
 }
 

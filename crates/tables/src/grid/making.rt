@@ -7,8 +7,8 @@ ghost use Rattle.std.specs.declared.option.Option.the-variants.{Some, None};
 ghost use Rattle.automata.specs.Shown.{signList};
 ghost use Rattle.machines.specs.Tables.{count, next};
 ghost use Rattle.tables.specs.Shown.{shown, Blank};
-use automata::signs::Signs;
 use crate::grid::Grid;
+use automata::signs::Signs;
 
 // 128 places with this value in the first, and 0 in the others.
 fn first_place(value: u8) -> [u8; 128]

@@ -1,4 +1,4 @@
-use mathlib.Core.Path.{ap, _∙_}
+use mathlib.Core.Path.{_∙_}
 use Rattle.automata.specs.Drafts.{size}
 use Rattle.automata.specs.Shown.{shown}
 use Rattle.views.specs.Colourings.{coloured}

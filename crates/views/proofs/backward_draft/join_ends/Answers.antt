@@ -1,4 +1,3 @@
-use mathlib.Core.Path.{sym, _∙_}
 use lib.ListN.{getD}
 use Rattle.automata.specs.Drafts.{size}
 use Rattle.automata.specs.Shown.{shown}
@@ -9,14 +8,12 @@ use Rattle.views.proofs.backward_draft.join_ends.Needs.{then-has-arrow, else-h
 
 pub loop-q-again : need.loop-q-again
 loop-q-again g c =
-    let K = g .K·Kind .model in
-    let n = c .loop-q .q in
-    let s = shown (c .args .automaton .now) .arrow (c .args .from) (c .args .letter) in
-    let x = c .loop-q .joined in
     elim (c .if-has-arrow .came) [
-      | then-has-arrow w ↦ w .joined-is ∙ join-next K n s (λ q. getD (c .args .colouring .now .codes) q (K .none)) x (w .code .result) (w .join-joined .result)
-          (sym (c .has-arrow .ensures) ∙ w .if-has-arrow .taken) (c .loop-q .inv) (w .code .ensures) (w .join-joined .ensures)
-      | else-has-arrow w ↦ w .joined-is ∙ join-same K n s (λ q. getD (c .args .colouring .now .codes) q (K .none)) x (sym (c .has-arrow .ensures) ∙ w .if-has-arrow .left) (c .loop-q .inv)
+      | then-has-arrow w ↦ join-next (g .K·Kind .model) (c .loop-q .q) (shown (c .args .automaton .now) .arrow (c .args .from) (c .args .letter)) (λ q. getD (c .args .colouring .now .codes) q (g .K·Kind .model .none))
+          (c .loop-q .joined) (w .code .result) (w .join-joined .result) (c .if-has-arrow .joined) (c .has-arrow .result)
+          (c .has-arrow .ensures) (w .if-has-arrow .taken) (c .loop-q .inv) (w .code .ensures) (w .join-joined .ensures) (w .joined-is)
+      | else-has-arrow w ↦ join-same (g .K·Kind .model) (c .loop-q .q) (shown (c .args .automaton .now) .arrow (c .args .from) (c .args .letter)) (λ q. getD (c .args .colouring .now .codes) q (g .K·Kind .model .none))
+          (c .loop-q .joined) (c .if-has-arrow .joined) (c .has-arrow .result) (c .has-arrow .ensures) (w .if-has-arrow .left) (c .loop-q .inv) (w .joined-is)
     ]
 
 pub returns : need.returns

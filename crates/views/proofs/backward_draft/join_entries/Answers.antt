@@ -1,4 +1,3 @@
-use mathlib.Core.Path.{sym, _∙_}
 use lib.ListN.{getD}
 use Rattle.automata.specs.Drafts.{size}
 use Rattle.automata.specs.Shown.{shown}
@@ -9,14 +8,12 @@ use Rattle.views.proofs.backward_draft.join_entries.Needs.{then-is-entry, else
 
 pub loop-p-again : need.loop-p-again
 loop-p-again g c =
-    let K = g .K·Kind .model in
-    let n = c .loop-p .p in
-    let s = shown (c .args .automaton .now) .entry in
-    let x = c .loop-p .joined in
     elim (c .if-is-entry .came) [
-      | then-is-entry w ↦ w .joined-is ∙ join-next K n s (λ q. getD (c .args .colouring .now .codes) q (K .none)) x (w .code .result) (w .join-joined .result)
-          (sym (c .is-entry .ensures) ∙ w .if-is-entry .taken) (c .loop-p .inv) (w .code .ensures) (w .join-joined .ensures)
-      | else-is-entry w ↦ w .joined-is ∙ join-same K n s (λ q. getD (c .args .colouring .now .codes) q (K .none)) x (sym (c .is-entry .ensures) ∙ w .if-is-entry .left) (c .loop-p .inv)
+      | then-is-entry w ↦ join-next (g .K·Kind .model) (c .loop-p .p) (shown (c .args .automaton .now) .entry) (λ q. getD (c .args .colouring .now .codes) q (g .K·Kind .model .none))
+          (c .loop-p .joined) (w .code .result) (w .join-joined .result) (c .if-is-entry .joined) (c .is-entry .result)
+          (c .is-entry .ensures) (w .if-is-entry .taken) (c .loop-p .inv) (w .code .ensures) (w .join-joined .ensures) (w .joined-is)
+      | else-is-entry w ↦ join-same (g .K·Kind .model) (c .loop-p .p) (shown (c .args .automaton .now) .entry) (λ q. getD (c .args .colouring .now .codes) q (g .K·Kind .model .none))
+          (c .loop-p .joined) (c .if-is-entry .joined) (c .is-entry .result) (c .is-entry .ensures) (w .if-is-entry .left) (c .loop-p .inv) (w .joined-is)
     ]
 
 pub returns : need.returns

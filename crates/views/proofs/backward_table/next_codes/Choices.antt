@@ -1,5 +1,5 @@
 use mathlib.Core.Path.{_≡_}
-use lib.ListN.{length, getD}
+use lib.ListN.{length}
 use Rattle.automata.specs.Shown.{signList}
 use Rattle.tables.specs.Shown.{shown}
 use Rattle.views.specs.Colourings.{coloured}

@@ -1,4 +1,4 @@
-use mathlib.Core.Path.{ap, _∙_}
+use mathlib.Core.Path.{_∙_}
 use Rattle.machines.specs.Tables.{count}
 use Rattle.tables.specs.Shown.{shown}
 use Rattle.views.specs.Colourings.{coloured}

@@ -1,4 +1,3 @@
-use mathlib.Core.Path.{sym, _∙_}
 use Rattle.automata.specs.Sets.{has}
 use Rattle.automata.specs.Drafts.{size}
 use Rattle.automata.specs.Shown.{shown}
@@ -9,14 +8,12 @@ use Rattle.views.proofs.forward_draft.join_values.Needs.{then-has, else-has}
 
 pub loop-p-again : need.loop-p-again
 loop-p-again g c =
-    let K = g .K·Kind .model in
-    let p = c .loop-p .p in
-    let s = has (c .args .set) in
-    let f = codeAt K (shown (c .args .automaton .now)) in
     elim (c .if-has .came) [
-      | then-has w ↦ w .joined-is ∙ join-next K p s f (c .loop-p .joined) (w .code-at .result) (w .join-joined .result)
-          (sym (c .has .ensures) ∙ w .if-has .taken) (c .loop-p .inv) (w .code-at .ensures) (w .join-joined .ensures)
-      | else-has w ↦ w .joined-is ∙ join-same K p s f (c .loop-p .joined) (sym (c .has .ensures) ∙ w .if-has .left) (c .loop-p .inv)
+      | then-has w ↦ join-next (g .K·Kind .model) (c .loop-p .p) (has (c .args .set)) (codeAt (g .K·Kind .model) (shown (c .args .automaton .now)))
+          (c .loop-p .joined) (w .code-at .result) (w .join-joined .result) (c .if-has .joined) (c .has .result)
+          (c .has .ensures) (w .if-has .taken) (c .loop-p .inv) (w .code-at .ensures) (w .join-joined .ensures) (w .joined-is)
+      | else-has w ↦ join-same (g .K·Kind .model) (c .loop-p .p) (has (c .args .set)) (codeAt (g .K·Kind .model) (shown (c .args .automaton .now)))
+          (c .loop-p .joined) (c .if-has .joined) (c .has .result) (c .has .ensures) (w .if-has .left) (c .loop-p .inv) (w .joined-is)
     ]
 
 pub returns : need.returns

@@ -11,10 +11,28 @@ use Rattle.tables.proofs.grid.Grid.blank.Needs as need
 
 pub ghost-result : need.ghost-result
 ghost-result c =
-    let e = c .first-place .ensures in
-    (omega arith, (omega arith, (ap length e, (subst Bytes (sym e) (first-bytes (c .args .value) (omega (arith, c .fits .value))),
-    (refl, ((λ i l. ap length (row-none i l)), (subst (λ (vs : List ℕ). BlankPast vs 1) (sym e) (first-blank (c .args .value)),
-    ((λ i a li la. omega (arith, cell-none i a)), ((λ i a l. cell-none i a), ((λ i a l. cell-none i a), tt))))))))))
+    let e = c .first-place .ensures in (
+      omega arith,
+      (
+        omega arith,
+        (
+          ap length e,
+          (
+            subst Bytes (sym e) (first-bytes (c .args .value) (omega (arith, c .fits .value))),
+            (
+              refl,
+              (
+                (λ i l. ap length (row-none i l)),
+                (
+                  subst (λ (vs : List ℕ). BlankPast vs 1) (sym e) (first-blank (c .args .value)),
+                  ((λ i a li la. omega (arith, cell-none i a)), ((λ i a l. cell-none i a), ((λ i a l. cell-none i a), tt))),
+                ),
+              ),
+            ),
+          ),
+        ),
+      ),
+    )
 
 pub returns : need.returns
 returns c = record {

@@ -25,10 +25,34 @@ pub ghost-grid : need.ghost-grid
 ghost-grid g c =
     let m = g .M·Machine .meaning (c .args .machine .now) in
     let q = c .in-Ok .ensures tt .ended in
-    let k = letters-are (g .M·Machine .meaning (c .args .machine .now)) (c .signs-signs .result) (c .signs-signs .ensures .signs) in
-    (filled-some m _ _ _ _ _ _ (q .1) (q .0), (omega (arith, q .0, q .1 .few), (q .1 .wide, (q .1 .bytes, (q .1 .tall, (q .1 .columns, (q .1 .unvalued,
-    ((λ i a li la. filled-inside m _ _ _ _ _ _ (q .1) (q .0) i a li (omega (arith, k))), (filled-below m _ _ _ _ _ _ (q .1) (q .0),
-    ((λ i a l. q .1 .beside i a (omega (arith, k))), tt))))))))))
+    let k = letters-are (g .M·Machine .meaning (c .args .machine .now)) (c .signs-signs .result) (c .signs-signs .ensures .signs) in (
+      filled-some m _ _ _ _ _ _ (q .1) (q .0),
+      (
+        omega (arith, q .0, q .1 .few),
+        (
+          q .1 .wide,
+          (
+            q .1 .bytes,
+            (
+              q .1 .tall,
+              (
+                q .1 .columns,
+                (
+                  q .1 .unvalued,
+                  (
+                    (λ i a li la. filled-inside m _ _ _ _ _ _ (q .1) (q .0) i a li (omega (arith, k))),
+                    (
+                      filled-below m _ _ _ _ _ _ (q .1) (q .0),
+                      ((λ i a l. q .1 .beside i a (omega (arith, k))), tt),
+                    ),
+                  ),
+                ),
+              ),
+            ),
+          ),
+        ),
+      ),
+    )
 
 pub returns-in-Ok : need.returns-in-Ok
 returns-in-Ok g c =
@@ -39,7 +63,7 @@ returns-in-Ok g c =
       loan = q .loan ∙ c .clear .ensures .loan;
       long = q .long ∙ l;
       ended = subst (λ (t : Grid). Accepted (g .M·Machine .meaning (c .args .machine .now)) (g .State·State .blank) t (now (c .walk .last .roll .entries)) (c .walk .last .roll .len)) (sym (c .of .ensures))
-        (accepted m _ _ _ (c .in-Ok .count) _ (c .signs-signs .result) refl (c .signs-signs .ensures .signs) refl (q .ended .0) (q .ended .1));
+          (accepted m _ _ _ (c .in-Ok .count) _ (c .signs-signs .result) refl (c .signs-signs .ensures .signs) refl (q .ended .0) (q .ended .1));
     }
 
 pub returns-in-Err : need.returns-in-Err
@@ -53,5 +77,5 @@ returns-in-Err g c =
       loan = c .clear-in-Err .ensures .loan ∙ (q .loan ∙ c .clear .ensures .loan);
       long = l2 ∙ (q .long ∙ l);
       ended = refused m (g .Kind·Kind .model) d (now (c .walk .last .roll .entries)) _ _ _ (c .signs-signs .result) (c .signs-signs .ensures .signs) (c .signs-signs .ensures .kind)
-        (c .blank .ensures) (q .ended) (c .clear-in-Err .ensures .items) (c .clear-in-Err .ensures .len);
+          (c .blank .ensures) (q .ended) (c .clear-in-Err .ensures .items) (c .clear-in-Err .ensures .len);
     }

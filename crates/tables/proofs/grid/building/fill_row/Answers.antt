@@ -12,9 +12,12 @@ use Rattle.tables.proofs.Fillings.{filling-value, filling-row, placed-filling,
 use Rattle.tables.proofs.grid.building.fill_row.Needs as need
 
 pub loop-letter-holds : need.loop-letter-holds
-loop-letter-holds g c =
-    (refl, refl, c .pre .listed,
-     filling-value _ _ _ _ _ _ _ _ _ (c .pre .filling) (c .value-of .result) (c .pre .listed) (omega (arith, c .value-of .ok)) (c .value-of .ensures))
+loop-letter-holds g c = (
+  refl,
+  refl,
+  c .pre .listed,
+  filling-value _ _ _ _ _ _ _ _ _ (c .pre .filling) (c .value-of .result) (c .pre .listed) (omega (arith, c .value-of .ok)) (c .value-of .ensures),
+)
 
 pub returns-in-Break-number : need.returns-in-Break-number
 returns-in-Break-number g c =
@@ -45,11 +48,12 @@ pub loop-letter-again : need.loop-letter-again
 loop-letter-again g c =
     let i = c .loop-letter .inv in
     let q = c .in-Continue-number .ensures tt in
-    let la : c .loop-letter .letter < alphabet (g .M·Machine .meaning (c .args .machine .now)) = omega (arith, c .pre .letters, c .loop-letter-test .taken) in
-    (q .loan ∙ i .0,
-     placed-long {E = BuildFault} _ _ _ _ _ _ (Ok (c .in-Continue-number .number)) (q .placed) ∙ i .1,
-     omega (arith, i .2, placed-more {E = BuildFault} _ _ _ _ _ _ (Ok (c .in-Continue-number .number)) (q .placed) .0),
-     placed-filling _ _ _ _ _ _ _ _ _ (i .3) (i .2) la _ (c .step-of-state .ensures) _ _ (c .in-Continue-number .number) (q .placed) (c .if-number-ge128 .left))
+    let la : c .loop-letter .letter < alphabet (g .M·Machine .meaning (c .args .machine .now)) = omega (arith, c .pre .letters, c .loop-letter-test .taken) in (
+      q .loan ∙ i .0,
+      placed-long {E = BuildFault} _ _ _ _ _ _ (Ok (c .in-Continue-number .number)) (q .placed) ∙ i .1,
+      omega (arith, i .2, placed-more {E = BuildFault} _ _ _ _ _ _ (Ok (c .in-Continue-number .number)) (q .placed) .0),
+      placed-filling _ _ _ _ _ _ _ _ _ (i .3) (i .2) la _ (c .step-of-state .ensures) _ _ (c .in-Continue-number .number) (q .placed) (c .if-number-ge128 .left),
+    )
 
 pub returns : need.returns
 returns g c =

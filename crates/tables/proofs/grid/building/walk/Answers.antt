@@ -21,9 +21,12 @@ returns-in-Break-place g c =
 
 pub loop-i-holds : need.loop-i-holds
 loop-i-holds g c =
-    let q = c .in-Continue-place .ensures tt in
-    (refl, refl, omega arith,
-     first-filling _ _ _ _ _ _ _ (c .start .ensures) (c .pre .unlisted) (c .pre .blank-roll) (c .in-Continue-place .field-0) (q .placed) _ (c .pre .blank-values) _ (c .pre .blank-next))
+    let q = c .in-Continue-place .ensures tt in (
+      refl,
+      refl,
+      omega arith,
+      first-filling _ _ _ _ _ _ _ (c .start .ensures) (c .pre .unlisted) (c .pre .blank-roll) (c .in-Continue-place .field-0) (q .placed) _ (c .pre .blank-values) _ (c .pre .blank-next),
+    )
 
 pub fill-row-requires : need.fill-row-requires
 fill-row-requires g c κs = record { letters = c .pre .letters; listed = omega (arith, c .loop-i-test .taken, c .len .ensures); filling = c .loop-i .inv .3 }

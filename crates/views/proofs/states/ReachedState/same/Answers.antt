@@ -10,8 +10,7 @@ returns c =
     let s = c .args .self .now in
     let t = c .args .other .now in
     let a = c .bits .result in
-    let b = c .bits-2 .result in
-    (
+    let b = c .bits-2 .result in (
       λ e. ap reachedSet (set-bits (s .set) (t .set) (sym (c .bits .ensures) ∙ eqb-true a b e ∙ c .bits-2 .ensures)),
       λ e. eq-eqb a b (c .bits .ensures ∙ ap (λ (x : Reached). x .set .bits) e ∙ sym (c .bits-2 .ensures)),
     )
