@@ -1,0 +1,5 @@
+pub mod Minimal
+pub mod Outcomes
+pub mod Onces
+pub mod Atoms
+pub mod Pressing
