@@ -1,4 +1,6 @@
 // Nondeterministic automata with codes: sign lists, sets of states, and what an automaton holds.
+#![tactic(auto)]
+
 pub mod automaton;
 pub mod faults;
 pub mod laws;

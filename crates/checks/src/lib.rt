@@ -1,4 +1,6 @@
 // Tests of the libraries, and what they are tried on.
+#![tactic(auto)]
+
 #[cfg(test)]
 mod drafts_tests;
 pub mod further;

@@ -1,5 +1,7 @@
 // Reads a draft text from standard input, presses the draft, and prints its smallest table, or the
 // line of the refusal.
+#![tactic(auto)]
+
 use reports::pressed::pressed;
 use std::io;
 use std::io::{Read, Write};

@@ -1,4 +1,6 @@
 // Press, once and verdict: the smallest table of a draft or of a machine, and the law that says so.
+#![tactic(auto)]
+
 pub mod faults;
 pub mod judging;
 pub mod laws;

@@ -1,5 +1,7 @@
 // Reads a draft from the file that its argument names and presses it, then reads entries from standard
 // input, one to a line, and prints a line for each: its value, and its longest front part with a value.
+#![tactic(auto)]
+
 use anyhow::anyhow;
 use drafts::draft::Draft;
 use kinds::kind::Kind;

@@ -1,4 +1,6 @@
 // Draft text: a draft as lines of fields, read and written.
+#![tactic(auto)]
+
 pub mod any;
 pub mod faults;
 pub mod laws;

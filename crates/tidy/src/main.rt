@@ -1,5 +1,7 @@
 // Reads a draft text from standard input and prints it in the order in which drafts are written, or
 // the line of its refusal.
+#![tactic(auto)]
+
 use std::io;
 use std::io::{Read, Write};
 use texts::tidying::tidied;

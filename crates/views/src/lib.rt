@@ -1,3 +1,5 @@
+#![tactic(auto)]
+
 pub mod backward_draft;
 pub mod backward_table;
 pub mod colouring;

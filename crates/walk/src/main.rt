@@ -1,6 +1,8 @@
 // Reads a draft text from standard input, builds its forward machine, and prints each state of the
 // table as it is first reached: its number, its value, the first word that leads to it (`-` for the
 // empty word), and its next states by letter.
+#![tactic(auto)]
+
 use drafts::draft::Draft;
 use kinds::kind::Kind;
 use machines::machine::Machine;
