@@ -7,7 +7,7 @@ use crate::state::State;
 
 // One entry placed: it stands first, and all others are blank.
 fn lend_any<T: State>(entries: &mut [T], x: T)
-    ensures { entries.new ≡ slice_set (replicate (length entries.old) blank) 0 x }
+    ensures { entries.new ≡ slice_set (replicate (length entries.old) T.blank) 0 x }
 {
     let mut roll = Roll::fresh(entries);
     let _ = roll.place(x);

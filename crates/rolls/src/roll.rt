@@ -15,7 +15,7 @@ pub struct Roll<'a, T> {
 
 // Makes every entry blank.
 fn wipe<T: State>(entries: &mut [T])
-    ensures { entries.new ≡ replicate (length entries.old) blank }
+    ensures { entries.new ≡ replicate (length entries.old) T.blank }
 {
     for e in entries.iter_mut() {
         *e = T::blank();
@@ -26,7 +26,7 @@ impl<'a, T: State> Roll<'a, T> {
     // Takes the lent entries; all become blank, and none is in use.
     pub fn fresh(entries: &'a mut [T]) -> Roll<'a, T>
         ensures loan { result.entries.ghost_name ≡ entries.entry.ghost_name }
-        ensures items { result.entries.now ≡ replicate (length entries.old) blank }
+        ensures items { result.entries.now ≡ replicate (length entries.old) T.blank }
         ensures len { result.len ≡ 0 }
     {
         wipe(entries);
@@ -36,7 +36,7 @@ impl<'a, T: State> Roll<'a, T> {
     // The same again on a roll in use.
     pub fn clear(&mut self)
         ensures loan { self.new.entries.ghost_name ≡ self.old.entries.ghost_name }
-        ensures items { self.new.entries.now ≡ replicate (length self.old.entries.now) blank }
+        ensures items { self.new.entries.now ≡ replicate (length self.old.entries.now) T.blank }
         ensures len { self.new.len ≡ 0 }
     {
         self.len = 0;
@@ -61,7 +61,7 @@ impl<'a, T: State> Roll<'a, T> {
 
     // The entry numbered `i`, if it is in use.
     pub fn get(&self, i: usize) -> Option<&T>
-        ensures { Got blank self.now.entries.now self.now.len i result }
+        ensures { Got T.blank self.now.entries.now self.now.len i result }
     {
         if i < self.len {
             let es = &*self.entries;
@@ -73,7 +73,7 @@ impl<'a, T: State> Roll<'a, T> {
 
     // The number of the first entry in use that equals `x`, or none.
     fn position(&self, x: &T) -> Option<usize>
-        ensures first { Searched x.now blank self.now.entries.now self.now.len result }
+        ensures first { Searched x.now T.blank self.now.entries.now self.now.len result }
         ensures addable { Addable x.now self.now.entries.now self.now.len result }
     {
         let es = &*self.entries;
@@ -89,7 +89,7 @@ impl<'a, T: State> Roll<'a, T> {
     // Refused where `x` is new and no supplied entry is free; the roll is then untouched.
     pub fn place(&mut self, x: T) -> Result<usize, RollFault>
         ensures loan { self.new.entries.ghost_name ≡ self.old.entries.ghost_name }
-        ensures placed { Placed x blank self.old.entries.now self.old.len self.new.entries.now self.new.len result }
+        ensures placed { Placed x T.blank self.old.entries.now self.old.len self.new.entries.now self.new.len result }
     {
         if let Some(i) = self.position(&x) {
             return Ok(i);

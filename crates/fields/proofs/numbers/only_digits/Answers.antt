@@ -14,7 +14,7 @@ returns-then-not-is-ascii-digit c =
 
 pub loop-b-preserved : goal.loop-b-preserved
 loop-b-preserved c =
-    c.loop-b.invariant ∙ next c.args.field.now c.loop-b.b-index _ c.loop-b-test.true c.if-not-is-ascii-digit.ensures.value
+    c.loop-b.invariant ∙ next c.args.field.now c.loop-b.b-index _ c.loop-b-test.true c.if-not-is_ascii_digit.ensures.value
 
 pub returns : goal.returns
 returns c = sym (c.loop-b.invariant ∙ at_drop_all all_ascii_digits c.args.field.now c.loop-b.b-index (omega arith))

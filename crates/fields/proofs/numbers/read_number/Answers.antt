@@ -27,20 +27,20 @@ pub returns-then-field-gt1 : goal.returns-then-field-gt1
 returns-then-field-gt1 c =
     let bs = c.args.field.now in
     let p = and_from (eqb (get_or bs 0 0) 48) (ltb 1 (length bs)) (eq-eqb (get_or bs 0 0) 48 c.if-field-eq48.true) (lt-ltb 1 (length bs) c.if-field-gt1.true) in
-    let v = sym (number-padded bs (sym c.if-is-empty.ensures) (sym c.if-not-only-digits.ensures) p) in
+    let v = sym (number-padded bs (sym c.if-is_empty.ensures) (sym c.if-not-only_digits.ensures) p) in
     record { value = v; decimal = answer-reads bs (Err LeadingZero) v }
 
 pub returns-then-total-gt-LARGEST : goal.returns-then-total-gt-LARGEST
 returns-then-total-gt-LARGEST c =
     let bs = c.args.field.now in
     let p = not-padded bs c.else-field-eq48.either in
-    let v = sym (number_large bs (sym c.if-is-empty.ensures) (sym c.if-not-only-digits.ensures) p (omega arith)) in
+    let v = sym (number_large bs (sym c.if-is_empty.ensures) (sym c.if-not-only_digits.ensures) p (omega arith)) in
     record { value = v; decimal = answer-reads bs (Err TooLarge) v }
 
 pub returns : goal.returns
 returns c =
     let bs = c.args.field.now in
     let p = not-padded bs c.else-field-eq48.either in
-    let same : digits_value 10 c.args.field.now ≡ c.capped-value-total.result = omega arith in
-    let v = sym (number_small bs (sym c.if-is-empty.ensures) (sym c.if-not-only-digits.ensures) p (omega arith) ∙ ap Ok same) in
-    record { value = v; decimal = answer-reads bs (Ok c.capped-value-total.result) v }
+    let same : digits_value 10 c.args.field.now ≡ c.capped_value-total.result = omega arith in
+    let v = sym (number_small bs (sym c.if-is_empty.ensures) (sym c.if-not-only_digits.ensures) p (omega arith) ∙ ap Ok same) in
+    record { value = v; decimal = answer-reads bs (Ok c.capped_value-total.result) v }

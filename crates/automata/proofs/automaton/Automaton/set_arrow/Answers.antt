@@ -58,5 +58,5 @@ returns-then-letter-len c =
     let lq : c.args.to < 32 = omega (arith, c.if-to-self.true, c.args.self.now.few) in
     let la : c.args.letter < c.args.self.now.signs.count = omega (arith, c.if-letter-len.true, c.len.ensures, sign_count c.args.self.now.signs) in
     changed-arrow c.args.self.now c.args.from c.args.letter c.args.to c.bits.result c.args.on c.if-from-self.true c.if-to-self.true la
-    (stored c.bits.result _ c.args.to c.from-bits-ends.result c.put.result c.args.on c.bits.ensures c.from-bits-ends.ensures (c.put.ensures.own_val lq))
+    (stored c.bits.result _ c.args.to c.from_bits-ends.result c.put.result c.args.on c.bits.ensures c.from_bits-ends.ensures (c.put.ensures.own_val lq))
     _ refl refl refl (λ p' a' q'. refl)

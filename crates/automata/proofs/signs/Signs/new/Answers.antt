@@ -29,4 +29,4 @@ invariant-of-result c =
 pub returns : goal.returns
 returns c =
     let xs = c.args.signs.now in
-    (c.in-ok-check-signs.ensures, ap (take (length xs)) c.in-places.ensures ∙ padded-front xs)
+    (c.in_ok-check_signs.ensures, ap (take (length xs)) c.in_places.ensures ∙ padded-front xs)
