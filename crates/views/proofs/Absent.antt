@@ -1,5 +1,5 @@
 -- A number to which nothing answers lies past the bound.
-use Rattle.std.proofs.Common.{◌≡◌, ℕ, ◌≤◌, cond, ltb, Some, None, Option, sym, ◌∙◌, inl, inr, arith}
+use Rattle.std.proofs.Common.{◌≡◌, ℕ, ◌≤◌, cond, ltb, Some, None, ◌∙◌, inl, inr, arith}
 use Rattle.std.proofs.lemmas.Bool.{cases_lt, lt-ltb, cond-true}
 
 pub absent : (i n x : ℕ) → None ≡ cond (ltb i n) (Some x) None → n ≤ i

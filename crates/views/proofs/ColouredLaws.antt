@@ -1,10 +1,9 @@
 -- The codes of a colouring that is made by a function, and such a colouring made code by code.
-use Rattle.std.proofs.Common.{◌≡◌, ℕ, ◌+◌, ◌<◌, ◌≤◌, Bool, cond, ltb, List, length, get_or, set, sym, refl, ap, ◌∙◌, inl, inr, arith, length-set}
+use Rattle.std.proofs.Common.{◌≡◌, ℕ, ◌+◌, ◌<◌, ◌≤◌, cond, ltb, List, length, get_or, set, sym, ap, ◌∙◌, inl, inr, arith, length-set}
 use lib.ListN.{length-replicate}
 use Rattle.std.proofs.lemmas.List.{get_or-set_same, get_or-set_other, get_or-replicate}
 use Rattle.std.proofs.lemmas.Bool.{cases_lt, cases_eq, lt-ltb, le-ltb, cond-true, cond-false}
 use Rattle.kinds.specs.Kinds.{KindModel}
-use Rattle.drafts.specs.Words.{tabulate}
 use Rattle.drafts.proofs.Tabulates.{length-tabulate, get_d_tabulate, get_or_tabulate_past, is_tabulate}
 use Rattle.views.specs.declared.colouring.Colouring.{Colouring}
 use Rattle.views.specs.Colourings.{plain, coloured}

@@ -1,28 +1,26 @@
 -- A draft read forward and backward: the machines' states beside the sets and lists of codes that give words their values.
-use Rattle.std.proofs.Common.{◌≡◌, ℕ, ◌<◌, ◌≤◌, Bool, true, false, cond, ◌&&◌, ltb, List, [], ◌∷◌, reverse, length, get_or, None, sym, refl, ap, ◌∙◌, inl, inr, arith}
+use Rattle.std.proofs.Common.{◌≡◌, ℕ, ◌<◌, ◌≤◌, Bool, true, false, cond, ◌&&◌, ltb, List, [], ◌∷◌, reverse, get_or, None, sym, refl, ap, ◌∙◌, inl, inr, arith}
 use mathlib.Core.Path.{fun_ext}
 use mathlib.Core.List.{reverse-reverse}
 use Rattle.std.proofs.lemmas.Bool.{cases_lt, lt-ltb, le-ltb, and_left, cond-true}
 use Rattle.kinds.specs.Kinds.{KindModel, clean, join_all}
 use Rattle.kinds.proofs.Joins.{clean_is}
-use Rattle.automata.specs.declared.sets.StateSet.{StateSet}
 use Rattle.automata.specs.Sets.{has}
 use Rattle.automata.specs.Signs.{sign_fault}
 use Rattle.automata.specs.Tests.{some}
 use Rattle.automata.specs.Drafts.{DraftModel, size, letters, is_letter}
 use Rattle.automata.proofs.SetLaws.{has-past}
-use Rattle.drafts.specs.Words.{Over, run, tabulate, member, entries, onward, reach, weigh, value, value_from}
+use Rattle.drafts.specs.Words.{Over, run, tabulate, member, entries, onward, reach, value_from}
 use Rattle.drafts.proofs.Tabulates.{get_d_tabulate, get_or_tabulate_past}
-use Rattle.drafts.proofs.Gathers.{gather, gather_same, gather_admitted}
+use Rattle.drafts.proofs.Gathers.{gather_same, gather_admitted}
 use Rattle.drafts.proofs.Paths.{member-entries}
 use Rattle.drafts.proofs.Backward.{backward, ahead, get_or-backward, value-backward}
 use Rattle.drafts.proofs.Meanings.{from_is}
-use Rattle.machines.specs.Models.{ends, meaning}
 use Rattle.views.specs.declared.colouring.Colouring.{Colouring}
 use Rattle.views.specs.declared.states.Reached.{Reached}
 use Rattle.views.specs.Colourings.{coloured}
 use Rattle.views.specs.Those.{those, reached_set}
-use Rattle.views.specs.DraftViews.{code_of_state, leads_into, set_onward, ends_joined, codes_back, forward_draft_model, backward_draft_model}
+use Rattle.views.specs.DraftViews.{code_of_state, leads_into, set_onward, ends_joined, codes_back}
 use Rattle.views.specs.ViewLaws.{DraftViewLaws}
 use Rattle.views.proofs.ThoseLaws.{those-has}
 use Rattle.views.proofs.ColouredLaws.{coloured_state, coloured-none}

@@ -1,5 +1,5 @@
 -- What a loop that counts up has made, one turn on and at its end.
-use Rattle.std.proofs.Common.{◌≡◌, ℕ, ◌+◌, ◌<◌, ◌≤◌, Bool, true, false, cond, ◌&&◌, ◌||◌, eqb, List, get_or, sym, ap, ◌∙◌, ap₂, add-one, arith}
+use Rattle.std.proofs.Common.{◌≡◌, ℕ, ◌+◌, ◌<◌, ◌≤◌, Bool, true, false, cond, ◌&&◌, eqb, List, get_or, sym, ap, ◌∙◌, ap₂, add-one, arith}
 use Rattle.std.proofs.lemmas.Bool.{or_from, and_from, and_left, and_right}
 use Rattle.kinds.specs.Kinds.{KindModel, join}
 use Rattle.automata.specs.declared.sets.StateSet.{StateSet}

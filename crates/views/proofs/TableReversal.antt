@@ -1,5 +1,5 @@
 -- A table read backward: after a word the code of each state is the table's value from there of the word turned round.
-use Rattle.std.proofs.Common.{◌≡◌, ℕ, ◌<◌, ◌≤◌, cond, ◌&&◌, ltb, ◌⊎◌, List, [], ◌∷◌, reverse, length, get_or, None, sym, refl, ap, ◌∙◌, inl, inr, arith}
+use Rattle.std.proofs.Common.{◌≡◌, ℕ, ◌<◌, ◌≤◌, ltb, ◌⊎◌, List, [], ◌∷◌, reverse, length, get_or, None, sym, refl, ap, ◌∙◌, inl, inr}
 use mathlib.Core.List.{reverse-reverse}
 use Rattle.std.proofs.lemmas.List.{get_or_past}
 use Rattle.std.proofs.lemmas.Bool.{cases_lt, lt-ltb, le-ltb, and_left, cond-true, cond-false}
@@ -8,12 +8,11 @@ use Rattle.kinds.proofs.Joins.{clean_is}
 use Rattle.automata.specs.Signs.{sign_fault}
 use Rattle.drafts.specs.Words.{run}
 use Rattle.drafts.proofs.Runs.{run-reverse}
-use Rattle.machines.specs.Models.{ends, meaning}
-use Rattle.machines.specs.Tables.{TableModel, count, next, table_step, table_machine_model}
+use Rattle.machines.specs.Tables.{TableModel, count, next, table_step}
 use Rattle.machines.proofs.Reading.{table-idle}
 use Rattle.views.specs.declared.colouring.Colouring.{Colouring}
 use Rattle.views.specs.Colourings.{coloured}
-use Rattle.views.specs.TableViews.{value_of_state, next_code, codes_onward, table_view, backward_table_model}
+use Rattle.views.specs.TableViews.{value_of_state, next_code, codes_onward}
 use Rattle.views.specs.ViewLaws.{TableViewLaws}
 use Rattle.views.proofs.ColouredLaws.{coloured_state, coloured-none}
 

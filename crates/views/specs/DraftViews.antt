@@ -1,5 +1,5 @@
 -- A draft as a machine that reads words forward, and as one that reads them backward.
-use Rattle.std.specs.Prelude.{◌≡◌, ℕ, Bool, cond, ◌&&◌, List, get_or, None, slice_index_or}
+use Rattle.std.specs.Prelude.{◌≡◌, ℕ, Bool, cond, ◌&&◌, get_or, None, slice_index_or}
 use Rattle.std.proofs.lemmas.Bool.{le-ltb, cond-false}
 use Rattle.kinds.specs.Kinds.{KindModel, join_all}
 use Rattle.kinds.proofs.Joins.{join_all-admitted}

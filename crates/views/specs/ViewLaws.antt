@@ -9,7 +9,7 @@ use Rattle.drafts.specs.declared.draft.Draft.{Draft}
 use Rattle.drafts.specs.Drawn.{drawn}
 use Rattle.drafts.specs.Words.{Over, run, member, reach, value, value_from}
 use Rattle.machines.specs.Models.{ends, meaning}
-use Rattle.machines.specs.Tables.{TableModel, count, table_step, Admitted, table_machine_model}
+use Rattle.machines.specs.Tables.{TableModel, table_step, Admitted, table_machine_model}
 use Rattle.tables.specs.declared.table.Table.{Table}
 use Rattle.tables.specs.Shown.{shown}
 use Rattle.views.specs.Accepted.{accepted}

@@ -16,7 +16,7 @@ use machines::machine::Machine;
 
 // The values of the states.
 fn state_values<K: Kind>(automaton: &Automaton) -> Colouring
-    ensures { result ≡ coloured model (size (shown automaton.now)) (code_of_state model (shown automaton.now)) }
+    ensures { result ≡ coloured K.model (size (shown automaton.now)) (code_of_state K.model (shown automaton.now)) }
 {
     let count = automaton.state_count();
     let mut colouring = Colouring::plain(K::none());
@@ -33,7 +33,7 @@ fn join_ends<K: Kind>(
     letter: usize,
     from: usize,
 ) -> u8
-    ensures { result ≡ ends_joined model (shown automaton.now) colouring.now letter from }
+    ensures { result ≡ ends_joined K.model (shown automaton.now) colouring.now letter from }
 {
     let count = automaton.state_count();
     let mut joined = K::none();
@@ -47,7 +47,7 @@ fn join_ends<K: Kind>(
 
 // The same for each state.
 fn ends_codes<K: Kind>(automaton: &Automaton, before: &Colouring, letter: usize) -> Colouring
-    ensures { result ≡ coloured model (size (shown automaton.now)) (ends_joined model (shown automaton.now) before.now letter) }
+    ensures { result ≡ coloured K.model (size (shown automaton.now)) (ends_joined K.model (shown automaton.now) before.now letter) }
 {
     let count = automaton.state_count();
     let mut after = Colouring::plain(K::none());
@@ -59,7 +59,7 @@ fn ends_codes<K: Kind>(automaton: &Automaton, before: &Colouring, letter: usize)
 
 // The join of the codes of the entry states.
 fn join_entries<K: Kind>(automaton: &Automaton, colouring: &Colouring) -> u8
-    ensures { result ≡ join_over model (size (shown automaton.now)) (shown automaton.now).entry (λ p. slice_index_or colouring.now.codes p model.none) }
+    ensures { result ≡ join_over K.model (size (shown automaton.now)) (shown automaton.now).entry (λ p. slice_index_or colouring.now.codes p K.model.none) }
 {
     let count = automaton.state_count();
     let mut joined = K::none();

@@ -16,7 +16,7 @@ use tables::table::Table;
 
 // The values of the states.
 fn row_values<K: Kind>(grid: &Grid) -> Colouring
-    ensures { result ≡ coloured model (count (shown grid.now)) (value_of_state model (shown grid.now)) }
+    ensures { result ≡ coloured K.model (count (shown grid.now)) (value_of_state K.model (shown grid.now)) }
 {
     let states = grid.state_count();
     let mut colouring = Colouring::plain(K::none());
@@ -28,7 +28,7 @@ fn row_values<K: Kind>(grid: &Grid) -> Colouring
 
 // For each state the code of the state to which the letter leads from it.
 fn next_codes<K: Kind>(grid: &Grid, before: &Colouring, letter: usize) -> Colouring
-    ensures { result ≡ coloured model (count (shown grid.now)) (next_code model (length (sign_bytes grid.now.signs)) (shown grid.now) before.now letter) }
+    ensures { result ≡ coloured K.model (count (shown grid.now)) (next_code K.model (length (sign_bytes grid.now.signs)) (shown grid.now) before.now letter) }
 {
     let states = grid.state_count();
     let mut after = Colouring::plain(K::none());

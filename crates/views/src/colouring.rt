@@ -19,7 +19,7 @@ impl Colouring {
 
     // The code at a place; from place 128 on it is none.
     pub fn code<K: Kind>(&self, place: usize) -> u8
-        ensures { result ≡ slice_index_or self.now.codes place model.none }
+        ensures { result ≡ slice_index_or self.now.codes place K.model.none }
     {
         if place < 128 {
             self.codes[place]

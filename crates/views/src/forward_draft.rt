@@ -17,7 +17,7 @@ use machines::machine::Machine;
 
 // The value of a state of an automaton; what is no state has none.
 pub fn code_at<K: Kind>(automaton: &Automaton, state: usize) -> u8
-    ensures { result ≡ code_of_state model (shown automaton.now) state }
+    ensures { result ≡ code_of_state K.model (shown automaton.now) state }
 {
     match automaton.code(state) {
         Some(code) => code,
@@ -64,7 +64,7 @@ fn ends_set(automaton: &Automaton, set: StateSet, letter: usize) -> StateSet
 
 // The join of the values of the states of the automaton that are in the set.
 fn join_values<K: Kind>(automaton: &Automaton, set: StateSet) -> u8
-    ensures { result ≡ join_over model (size (shown automaton.now)) (has set) (code_of_state model (shown automaton.now)) }
+    ensures { result ≡ join_over K.model (size (shown automaton.now)) (has set) (code_of_state K.model (shown automaton.now)) }
 {
     let count = automaton.state_count();
     let mut joined = K::none();

@@ -13,7 +13,7 @@ use tables::table::Table;
 
 // The value of a state of a grid; what is no state has none.
 pub fn value_at<K: Kind>(grid: &Grid, state: usize) -> u8
-    ensures { result ≡ value_of_state model (shown grid.now) state }
+    ensures { result ≡ value_of_state K.model (shown grid.now) state }
 {
     match grid.value(state) {
         Some(code) => code,

@@ -5,4 +5,4 @@ use Rattle.views.specs.DraftViews.{ends_joined}
 use Rattle.views.proofs.backward_draft.ends_codes.Given as goal
 
 abbrev pub invariant-loop-p : goal.invariant-loop-p
-invariant-loop-p g l = l.after ≡ coloured g.row.K-Kind.model l.p (ends_joined g.row.K-Kind.model (shown l.automaton) l.before l.letter)
+invariant-loop-p g l = l.after ≡ coloured g.K.Kind.model l.p (ends_joined g.K.Kind.model (shown l.automaton) l.before l.letter)

@@ -4,4 +4,4 @@ use Rattle.views.specs.DraftViews.{join_over}
 use Rattle.views.proofs.backward_draft.join_entries.Given as goal
 
 abbrev pub invariant-loop-p : goal.invariant-loop-p
-invariant-loop-p g l = l.joined ≡ join_over g.row.K-Kind.model l.p (shown l.automaton).entry (λ q. get_or l.colouring.codes q g.row.K-Kind.model.none)
+invariant-loop-p g l = l.joined ≡ join_over g.K.Kind.model l.p (shown l.automaton).entry (λ q. get_or l.colouring.codes q g.K.Kind.model.none)

@@ -5,4 +5,4 @@ use Rattle.views.specs.DraftViews.{code_of_state}
 use Rattle.views.proofs.backward_draft.state_values.Given as goal
 
 abbrev pub invariant-loop-p : goal.invariant-loop-p
-invariant-loop-p g l = l.colouring ≡ coloured g.row.K-Kind.model l.p (code_of_state g.row.K-Kind.model (shown l.automaton))
+invariant-loop-p g l = l.colouring ≡ coloured g.K.Kind.model l.p (code_of_state g.K.Kind.model (shown l.automaton))

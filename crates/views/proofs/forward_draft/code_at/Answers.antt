@@ -1,4 +1,4 @@
-use Rattle.std.proofs.Common.{◌≡◌, get_or, sym, ◌∙◌}
+use Rattle.std.proofs.Common.{get_or, sym, ◌∙◌}
 use Rattle.std.proofs.lemmas.List.{get_or_past}
 use Rattle.automata.specs.Drafts.{size}
 use Rattle.automata.specs.Shown.{shown}
@@ -9,4 +9,4 @@ pub returns-in-None : goal.returns-in-None
 returns-in-None g c =
     let d = shown c.args.automaton.now in
     let p = c.args.state in
-    c.none.ensures ∙ sym (get_or_past d.values p g.row.K-Kind.model.none (absent p (size d) (get_or d.values p 0) c.in-None.ensures))
+    c.none.ensures ∙ sym (get_or_past d.values p g.K.Kind.model.none (absent p (size d) (get_or d.values p 0) c.in-None.ensures))

@@ -12,8 +12,8 @@ loop-q-init c = c.empty-ends.ensures ∙ those-none (leads_into (shown c.args.au
 
 pub loop-q-preserved : goal.loop-q-preserved
 loop-q-preserved c =
-    put_next c.loop-q.q (leads_into (shown c.args.automaton.now) c.args.set c.args.letter) c.leads_to.result c.put_ends.result c.loop-q.ends c.loop-q.invariant c.leads_to.ensures
-    c.put_ends.ensures.own_val c.put_ends.ensures.past
+    put_next c.loop-q.q (leads_into (shown c.args.automaton.now) c.args.set c.args.letter) c.leads_to.result c.put-ends.result c.loop-q.ends c.loop-q.invariant c.leads_to.ensures
+    c.put-ends.ensures.own c.put-ends.ensures.past
 
 pub returns : goal.returns
 returns c =

@@ -12,7 +12,7 @@ loop-p-init c = c.empty-set.ensures ∙ those-none (shown c.args.automaton.now).
 pub loop-p-preserved : goal.loop-p-preserved
 loop-p-preserved c =
     put_next c.loop-p.p (shown c.args.automaton.now).entry c.is_entry.result c.put-set.result c.loop-p.set c.loop-p.invariant c.is_entry.ensures
-    c.put-set.ensures.own_val c.put-set.ensures.past
+    c.put-set.ensures.own c.put-set.ensures.past
 
 pub returns : goal.returns
 returns c =

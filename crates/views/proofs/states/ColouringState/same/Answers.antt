@@ -1,4 +1,4 @@
-use Rattle.std.proofs.Common.{◌≡◌, ℕ, List, ap}
+use Rattle.std.proofs.Common.{ℕ, List, ap}
 use Rattle.std.proofs.lemmas.Slice.Eq.{slice_eq-Decides}
 use Rattle.views.specs.declared.colouring.Colouring.{Colouring}
 use Rattle.views.proofs.states.ColouringState.same.Goals as goal
