@@ -1,7 +1,6 @@
 -- Words that texts spell: a letter more, and that a text spells at most one.
 use Rattle.std.proofs.Common.{◌≡◌, ℕ, zero, suc, ◌+◌, ◌<◌, ◌≤◌, false, eqb, List, [], ◌∷◌, ◌++◌, map, length, get_or, take, Some, None, Option, sym, refl, ap, ◌∙◌, subst, ap₂, inl, inr, arith}
 use mathlib.Core.List.{map-append}
-use lib.ListN.{length-map}
 use Rattle.std.proofs.lemmas.List.{take_more, get_or-take, length-take-le}
 use Rattle.std.proofs.lemmas.Bool.{cases_lt, cases_order, cases_Bool, eqb-true, eq-eqb, both_ways, cond-true, cond-false}
 use Rattle.kinds.specs.Kinds.{KindModel, clean}
@@ -17,7 +16,7 @@ use Rattle.tables.specs.Shown.{shown}
 use Rattle.views.specs.Accepted.{accepted}
 use Rattle.views.specs.TableViews.{value_of_state}
 use Rattle.views.specs.TableSays.{table_says}
-use Rattle.lookup.specs.Lookups.{Spells, NoLetter, NoneFrom, Ends, BestTo, kept}
+use Rattle.lookup.specs.Lookups.{Spells, NoLetter, Ends, BestTo, kept}
 
 module _ (signs : List ℕ) where
   abbrev sign_of : ℕ → ℕ

@@ -19,7 +19,7 @@ fn keep<K: Kind>(
     grid: &Grid,
     state: usize,
 ) -> Option<(usize, u8)>
-    ensures { result ≡ kept model.none best end (clean model (value_of_state model (shown grid.now) state)) }
+    ensures { result ≡ kept K.model.none best end (clean K.model (value_of_state K.model (shown grid.now) state)) }
 {
     let value = state_value::<K>(grid, state);
     if value == K::none() {
@@ -31,7 +31,7 @@ fn keep<K: Kind>(
 
 // The end and the value of the longest front part that has a value other than none.
 fn best_end<K: Kind>(grid: &Grid, text: &[u8]) -> Option<(usize, u8)>
-    ensures { Best model grid.now text.now result }
+    ensures { Best K.model grid.now text.now result }
 {
     let signs = grid.signs();
     let mut state = 0;
@@ -54,7 +54,7 @@ pub fn longest<'t, K: Kind>(
     table: &Table<K>,
     text: &'t [u8],
 ) -> Result<(&'t [u8], u8), LongestFault>
-    ensures { Longest model table.now.grid text.entry result }
+    ensures { Longest K.model table.now.grid text.entry result }
 {
     match best_end::<K>(table.grid(), text) {
         Some((end, value)) => Ok((&text[0..end], value)),

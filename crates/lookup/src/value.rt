@@ -13,14 +13,14 @@ use views::table_machine::{next_state, value_at};
 
 // The value of a state; a value that is not admitted counts as none.
 pub fn state_value<K: Kind>(grid: &Grid, state: usize) -> u8
-    ensures { result ≡ clean model (value_of_state model (shown grid.now) state) }
+    ensures { result ≡ clean K.model (value_of_state K.model (shown grid.now) state) }
 {
     K::clean(value_at::<K>(grid, state))
 }
 
 // The value of the word that a text spells, or the place of its first byte that is no sign.
 pub fn value<K: Kind>(table: &Table<K>, text: &[u8]) -> Result<u8, ValueFault>
-    ensures { Valued model table.now.grid text.now result }
+    ensures { Valued K.model table.now.grid text.now result }
 {
     let grid = table.grid();
     let signs = grid.signs();
