@@ -8,13 +8,13 @@ use Rattle.reports.proofs.appending.add_number.Goals as goal
 twenty : (n : ℕ) → n < 2 ^ 64 → length (decimal n) ≤ 20
 twenty n h = length-decimal-le 20 n (omega arith) (omega arith) (omega arith)
 
-pub slice-bounds-digits-end : goal.slice-bounds-digits-end
-slice-bounds-digits-end c =
+pub slice_bounds-digits-end : goal.slice_bounds-digits-end
+slice_bounds-digits-end c =
     let p = c.put-number-end.ensures.puts in
     omega (arith, p.place, p.size, twenty c.args.number (omega arith))
 
-pub slice-bounds-extend-from-slice-end : goal.slice-bounds-extend-from-slice-end
-slice-bounds-extend-from-slice-end c =
+pub slice_bounds-extend-from-slice-end : goal.slice_bounds-extend-from-slice-end
+slice_bounds-extend-from-slice-end c =
     let p = c.put-number-end.ensures.puts in
     sym (length-take-le c.put-number-end.result c.put-number-end.new.out (omega (arith, p.place, p.size, twenty c.args.number (omega arith))))
 

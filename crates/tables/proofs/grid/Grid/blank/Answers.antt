@@ -5,8 +5,8 @@ use Rattle.machines.specs.Tables.{TableModel}
 use Rattle.tables.proofs.GridLaws.{row_none, cell-none, first-bytes, first-blank, blank-cells}
 use Rattle.tables.proofs.grid.Grid.blank.Goals as goal
 
-pub invariant-of-result : goal.invariant-of-result
-invariant-of-result c =
+pub invariant_of-result : goal.invariant_of-result
+invariant_of-result c =
     let e = c.first-place.ensures in (
       omega arith,
       (

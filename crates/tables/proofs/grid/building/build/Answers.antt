@@ -18,8 +18,8 @@ walk-requires g c =
       unlisted = c.clear.ensures.len;
     }
 
-pub invariant-of-grid : goal.invariant-of-grid
-invariant-of-grid g c =
+pub invariant_of-grid : goal.invariant_of-grid
+invariant_of-grid g c =
     let m = g.M.Machine.meaning c.args.machine.now in
     let q = c.in-Ok.ensures.ended in
     let k = letters_are (g.M.Machine.meaning c.args.machine.now) c.signs-signs.result c.signs-signs.ensures.signs in (

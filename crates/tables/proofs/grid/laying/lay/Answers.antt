@@ -21,8 +21,8 @@ lay-rows-requires g c =
       small = λ k l. omega (arith, b k l, s.1);
     }
 
-pub invariant-of-grid : goal.invariant-of-grid
-invariant-of-grid g c =
+pub invariant_of-grid : goal.invariant_of-grid
+invariant_of-grid g c =
     let vs = c.args.values.now in
     let next = c.args.next.now in
     let count = c.args.count in
