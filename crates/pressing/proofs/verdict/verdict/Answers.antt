@@ -10,7 +10,7 @@ use Rattle.pressing.proofs.verdict.verdict.Goals as goal
 pub returns : goal.returns
 returns g c =
     let d = c.args.draft.now in
-    let q = c.in-ok-press-draft.ensures in
+    let q = c.in_ok-press-draft.ensures in
     let n = c.state-count.ensures ∙ ap (λ (a : Automaton). size (shown a)) c.automaton-automaton.ensures in
     let inside : c.args.state < size (drawn d) = omega (arith, n, c.if-state-state-count.false) in
     record {

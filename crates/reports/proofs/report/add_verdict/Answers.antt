@@ -17,9 +17,9 @@ returns c =
     adds_as out all _ _ r
     (verdict_text (decimal c.args.backs) (option_field c.args.told) (option_field c.args.onces) c.verdict-byte.result
     ∙ (λ i. ended_line ((86 ∷ []) ∷ decimal c.args.backs ∷ (c.verdict-byte.ensures i ∷ []) ∷ option_field c.args.told ∷ option_field c.args.onces ∷ [])))
-    (adds_then out named all _ _ r c.in-ok-extend-from-slice.ensures.items
-    (adds_then named counted all _ _ r c.in-ok-add-field.ensures
-    (adds_then counted judged all _ _ r c.in-ok-extend-from-slice-2.ensures.items
-    (adds_then judged told all _ _ r c.in-ok-add-option.ensures
-    (adds_then told once all _ _ r c.in-ok-add-option-2.ensures
+    (adds_then out named all _ _ r c.in_ok-extend-from-slice.ensures.items
+    (adds_then named counted all _ _ r c.in_ok-add-field.ensures
+    (adds_then counted judged all _ _ r c.in_ok-extend-from-slice-2.ensures.items
+    (adds_then judged told all _ _ r c.in_ok-add-option.ensures
+    (adds_then told once all _ _ r c.in_ok-add-option-2.ensures
     (adds_by once all (10 ∷ []) r c.extend-from-slice-3.ensures.items))))))

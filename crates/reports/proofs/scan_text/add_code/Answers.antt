@@ -14,6 +14,6 @@ returns c =
     let all = vec_items c.extend-from-slice-2.new.self in
     let r = c.extend-from-slice-2.result in
     adds_as out all _ _ r (text (decimal c.from.result) ∙ ap code_text c.from.ensures)
-    (adds_then out named all _ _ r c.in-ok-extend-from-slice.ensures.items
-    (adds_then named valued all _ _ r c.in-ok-add-field.ensures
+    (adds_then out named all _ _ r c.in_ok-extend-from-slice.ensures.items
+    (adds_then named valued all _ _ r c.in_ok-add-field.ensures
     (adds_by valued all (9 ∷ 45 ∷ []) r c.extend-from-slice-2.ensures.items)))

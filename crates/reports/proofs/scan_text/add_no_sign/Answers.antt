@@ -10,4 +10,4 @@ returns c =
     let out = vec_items c.args.out.now in
     let all = vec_items c.add-field.new.out in
     adds_as out all _ _ c.add-field.result (text (decimal c.args.place))
-    (adds_then out (vec_items c.extend-from-slice.new.self) all _ _ c.add-field.result c.in-ok-extend-from-slice.ensures.items c.add-field.ensures)
+    (adds_then out (vec_items c.extend-from-slice.new.self) all _ _ c.add-field.result c.in_ok-extend-from-slice.ensures.items c.add-field.ensures)

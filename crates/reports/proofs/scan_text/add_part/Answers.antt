@@ -14,5 +14,5 @@ returns c =
     let all = vec_items c.add-field.new.out in
     let r = c.add-field.result in
     adds_as out all _ _ r (text c.args.part.now (decimal c.from.result) ∙ ap (part_text c.args.part.now) c.from.ensures)
-    (adds_then out named all _ _ r c.in-ok-extend-from-slice.ensures.items
-    (adds_then named parted all _ _ r c.in-ok-extend-from-slice-2.ensures.items c.add-field.ensures))
+    (adds_then out named all _ _ r c.in_ok-extend-from-slice.ensures.items
+    (adds_then named parted all _ _ r c.in_ok-extend-from-slice-2.ensures.items c.add-field.ensures))

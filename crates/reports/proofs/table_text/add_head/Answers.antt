@@ -15,7 +15,7 @@ returns c =
     let signs = c.as-slice.ensures ∙ ap sign_bytes c.signs.ensures in
     adds_as out all _ _ r
     (head_text _ _ _ ∙ (λ i. ended_line ((84 ∷ []) ∷ (c.byte.ensures i ∷ []) ∷ signs i ∷ decimal (c.state-count.ensures i) ∷ [])))
-    (adds_then out named all _ _ r c.in-ok-extend-from-slice.ensures.items
-    (adds_then named signed all _ _ r c.in-ok-extend-from-slice-2.ensures.items
-    (adds_then signed counted all _ _ r c.in-ok-add-field.ensures
+    (adds_then out named all _ _ r c.in_ok-extend-from-slice.ensures.items
+    (adds_then named signed all _ _ r c.in_ok-extend-from-slice-2.ensures.items
+    (adds_then signed counted all _ _ r c.in_ok-add-field.ensures
     (adds_by counted all (10 ∷ []) r c.extend-from-slice-3.ensures.items))))

@@ -21,7 +21,7 @@ returns c =
     let read = c.from.ensures ∙ value_read t c.args.state c.unwrap-or-value.result c.value.result c.requires c.value.ensures c.unwrap-or-value.ensures in
     adds_as out all _ _ r
     (row_text (decimal c.args.state) (decimal c.from.result) (tabulate n (λ a. decimal (next n t c.args.state a))) ∙ (λ i. ended_line (decimal c.args.state ∷ decimal (read i) ∷ tabulate n (λ a. decimal (next n t c.args.state a)))))
-    (adds_then out numbered all _ _ r c.in-ok-add-number.ensures
-    (adds_then numbered valued all _ _ r c.in-ok-add-field.ensures
-    (adds_then valued celled all _ _ r c.in-ok-add-cells.ensures
+    (adds_then out numbered all _ _ r c.in_ok-add-number.ensures
+    (adds_then numbered valued all _ _ r c.in_ok-add-field.ensures
+    (adds_then valued celled all _ _ r c.in_ok-add-cells.ensures
     (adds_by celled all (10 ∷ []) r c.extend-from-slice.ensures.items))))

@@ -19,4 +19,4 @@ returns c =
     let out = vec_items c.args.out.now in
     let all = vec_items c.add-rows.new.out in
     adds_as out all _ _ c.add-rows.result (append_assoc (line_of head) (10 ∷ []) rows)
-    (adds_then out (vec_items c.add-head.new.out) all (ended_line head) rows c.add-rows.result c.in-ok-add-head.ensures c.add-rows.ensures)
+    (adds_then out (vec_items c.add-head.new.out) all (ended_line head) rows c.add-rows.result c.in_ok-add-head.ensures c.add-rows.ensures)

@@ -15,7 +15,7 @@ lay-rows-requires g c =
     let s = shaped-parts _ _ _ _ (sym c.is-shaped.ensures ∙ c.if-not-is-shaped.false) in
     let b = below_parts c.args.count c.args.next.now (sym c.all-below.ensures ∙ c.if-not-all-below.false) in
     record {
-      few = omega (arith, c.len-letters.ensures, sign_count c.in-ok-signs.signs, c.in-ok-signs.signs.few);
+      few = omega (arith, c.len-letters.ensures, sign_count c.in_ok-signs.signs, c.in_ok-signs.signs.few);
       states = s.1;
       within = s.3;
       small = λ k l. omega (arith, b k l, s.1);
@@ -27,11 +27,11 @@ invariant_of-grid g c =
     let next = c.args.next.now in
     let count = c.args.count in
     let n = c.len-letters.result in
-    let signs = c.in-ok-signs.signs in
+    let signs = c.in_ok-signs.signs in
     let s = shaped-parts _ _ _ _ (sym c.is-shaped.ensures ∙ c.if-not-is-shaped.false) in
     let b = below_parts c.args.count c.args.next.now (sym c.all-below.ensures ∙ c.if-not-all-below.false) in
-    let wide : c.len-letters.result ≡ c.in-ok-signs.signs.count = c.len-letters.ensures ∙ sign_count c.in-ok-signs.signs in
-    let narrow : c.len-letters.result ≤ 16 = omega (arith, wide, c.in-ok-signs.signs.few) in
+    let wide : c.len-letters.result ≡ c.in_ok-signs.signs.count = c.len-letters.ensures ∙ sign_count c.in_ok-signs.signs in
+    let narrow : c.len-letters.result ≤ 16 = omega (arith, wide, c.in_ok-signs.signs.few) in
     let few : length c.args.values.now ≤ 128 = omega (arith, s.1, s.2) in
     let e = sym c.lay-values.ensures in
     let f = sym c.lay-rows.ensures in (
@@ -49,12 +49,12 @@ invariant_of-grid g c =
                 (
                   subst (λ (xs : List ℕ). BlankPast xs c.args.count) e (λ k l. places-blank vs few k (omega (arith, s.2))),
                   (
-                    subst (λ (rs : List (List ℕ)). Inside rs c.args.count c.in-ok-signs.signs.count) f
+                    subst (λ (rs : List (List ℕ)). Inside rs c.args.count c.in_ok-signs.signs.count) f
                         (λ i a li la. laid_inside n count next s.1 narrow s.3 b i a li (omega (arith, wide))),
                     (
                       subst (λ (rs : List (List ℕ)). RowsBlank rs c.args.count) f (laid_below n count next s.1 narrow s.3),
                       (
-                        subst (λ (rs : List (List ℕ)). ColumnsBlank rs c.in-ok-signs.signs.count) f
+                        subst (λ (rs : List (List ℕ)). ColumnsBlank rs c.in_ok-signs.signs.count) f
                             (λ i a l. laid_beside n count next s.1 narrow s.3 i a (omega (arith, wide))),
                         tt,
                       ),
@@ -72,11 +72,11 @@ pub returns : goal.returns
 returns g c =
     let vs = c.args.values.now in
     let next = c.args.next.now in
-    let q = c.in-ok-signs.ensures in
+    let q = c.in_ok-signs.ensures in
     let shape = sym c.is-shaped.ensures ∙ c.if-not-is-shaped.false in
     let s = shaped-parts _ _ _ _ (sym c.is-shaped.ensures ∙ c.if-not-is-shaped.false) in
-    let wide : c.len-letters.result ≡ c.in-ok-signs.signs.count = c.len-letters.ensures ∙ sign_count c.in-ok-signs.signs in
-    let narrow : c.len-letters.result ≤ 16 = omega (arith, wide, c.in-ok-signs.signs.few) in
+    let wide : c.len-letters.result ≡ c.in_ok-signs.signs.count = c.len-letters.ensures ∙ sign_count c.in_ok-signs.signs in
+    let narrow : c.len-letters.result ≤ 16 = omega (arith, wide, c.in_ok-signs.signs.few) in
     let few : length c.args.values.now ≤ 128 = omega (arith, s.1, s.2) in
     let letters : length c.args.signs.now ≡ c.len-letters.result = ap length (sym q.1) ∙ sym c.len-letters.ensures in (
       no_fault g.K.Kind.model c.args.signs.now c.args.count vs next c.len-letters.result letters q.0 shape
