@@ -24,9 +24,9 @@ use views::states::Reached;
 use views::table_machine::TableMachine;
 
 // Whether `press` prints this of a text.
-fn prints(rt: &impl Abort, heap: Global, text: &[u8], told: &[u8]) -> Result<(), Fail> {
+fn prints(rt: &impl Abort, heap: Global, text: &[u8], told: &[u8], note: &str) -> Result<(), Fail> {
     let out = pressed(heap, text)?;
-    assert!(rt; out.as_slice() == told);
+    assert!(rt; out.as_slice() == told, "{note}");
     Ok(())
 }
 
@@ -37,43 +37,55 @@ fn tables_of_small_drafts(rt: HostRuntime) -> Result<(), Fail> {
         rt.alloc(),
         b"D\tY\tab\n",
         b"T\tY\tab\t1\n0\t0\t0\t0\nV\t1\tA\t-\t1\n",
-    )
-    .note("no state")?;
+        "no state",
+    )?;
     prints(
         &rt,
         rt.alloc(),
         b"D\tR\tab\nS\t0\nS\t3\nS\t0\nS\t7\nE\t0\nL\t0\ta\t1\nL\t1\ta\t1\nL\t0\tb\t2\nL\t2\ta\t3\nL\t3\ta\t3\n",
         b"T\tR\tab\t5\n0\t0\t1\t2\n1\t3\t1\t3\n2\t0\t4\t3\n3\t0\t3\t3\n4\t7\t4\t3\nV\t4\tA\t-\t5\n",
-    )
-    .note("two values that both accept stay apart")?;
+        "two values that both accept stay apart",
+    )?;
     prints(
         &rt,
         rt.alloc(),
         b"D\tY\tab\nS\t0\nS\t1\nS\t0\nS\t1\nE\t0\nL\t0\ta\t1\nL\t1\ta\t1\nL\t0\tb\t2\nL\t2\ta\t3\nL\t3\ta\t3\n",
         b"T\tY\tab\t4\n0\t0\t1\t2\n1\t1\t1\t3\n2\t0\t1\t3\n3\t0\t3\t3\nV\t4\tA\t-\t5\n",
-    )
-    .note("one value joins them")?;
+        "one value joins them",
+    )?;
     prints(
         &rt,
         rt.alloc(),
         b"D\tM\tab\nS\t1\nS\t2\nE\t0\nE\t1\nL\t0\ta\t0\nL\t1\ta\t1\nL\t1\tb\t1\n",
         b"T\tM\tab\t2\n0\t3\t0\t1\n1\t2\t1\t1\nV\t2\tA\t-\t2\n",
-    )
-    .note("the join of both entry states")?;
+        "the join of both entry states",
+    )?;
     prints(
         &rt,
         rt.alloc(),
         b"D\tY\tab\nS\t1\n",
         b"T\tY\tab\t1\n0\t0\t0\t0\nV\t2\tN\t0\t1\n",
+        "no entry",
     )
-    .note("no entry")
 }
 
 #[test]
 fn a_text_that_is_no_draft(rt: HostRuntime) -> Result<(), Fail> {
-    prints(&rt, rt.alloc(), b"", b"X\t21\t0\t0\t0\n")?;
-    prints(&rt, rt.alloc(), b"D\tY\tab\nS\t07\n", b"X\t24\t2\t2\t3\n")?;
-    prints(&rt, rt.alloc(), b"D\tY\tab\nE\t0\n", b"X\t25\t2\t0\t3\n")
+    prints(&rt, rt.alloc(), b"", b"X\t21\t0\t0\t0\n", "an empty text")?;
+    prints(
+        &rt,
+        rt.alloc(),
+        b"D\tY\tab\nS\t07\n",
+        b"X\t24\t2\t2\t3\n",
+        "a value with a zero in front",
+    )?;
+    prints(
+        &rt,
+        rt.alloc(),
+        b"D\tY\tab\nE\t0\n",
+        b"X\t25\t2\t0\t3\n",
+        "an entry that is no state",
+    )
 }
 
 // Adds the line of an arrow between states below 10.
@@ -149,13 +161,25 @@ fn tables_at_their_edge(rt: HostRuntime) -> Result<(), Fail> {
     assert!(rt; out.as_slice().starts_with(b"T\tY\tab\t128\n"));
     assert!(rt; out.as_slice().ends_with(b"V\t9\tA\t-\t128\n"));
     let eight = from_end(rt.alloc(), 8)?;
-    prints(&rt, rt.alloc(), eight.as_slice(), b"X\t11\t0\t0\t0\n")?;
+    prints(
+        &rt,
+        rt.alloc(),
+        eight.as_slice(),
+        b"X\t11\t0\t0\t0\n",
+        "256 states of the last table",
+    )?;
     let front = from_front(rt.alloc(), 7)?;
     let out = pressed(rt.alloc(), front.as_slice())?;
     assert!(rt; out.as_slice().starts_with(b"T\tY\tab\t9\n"));
     assert!(rt; out.as_slice().ends_with(b"V\t128\tA\t-\t9\n"));
     let front = from_front(rt.alloc(), 8)?;
-    prints(&rt, rt.alloc(), front.as_slice(), b"X\t10\t0\t0\t0\n")?;
+    prints(
+        &rt,
+        rt.alloc(),
+        front.as_slice(),
+        b"X\t10\t0\t0\t0\n",
+        "more than 128 states of the backward table",
+    )?;
     assert_eq!(rt;
         forward_count(front.as_slice())?,
         Some(10),
