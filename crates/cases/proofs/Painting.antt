@@ -17,7 +17,7 @@ use Rattle.views.specs.declared.colouring.Colouring.{Colouring}
 use Rattle.views.specs.Colourings.{plain, coloured}
 use Rattle.views.specs.DraftViews.{join_over, ends_joined, backward_draft_model}
 use Rattle.views.specs.TableViews.{next_code, backward_table_model}
-use Rattle.pressing.specs.Law.{code_of_entry}
+use Rattle.pressing.specs.Press.{code_of_entry}
 use Rattle.views.proofs.ColouredLaws.{placed, coloured-length, coloured-at, coloured_is, coloured_state, coloured-none}
 
 abbrev pub same_codes : List ℕ → List ℕ → Bool
