@@ -1,10 +1,9 @@
 -- The rows of arrows: what a write to one place leaves, and what an automaton keeps then.
-use Rattle.std.proofs.Common.{◌≡◌, ℕ, ◌^◌, ◌<◌, ◌≤◌, Bool, true, false, cond, ◌&&◌, eqb, List, [], ◌∷◌, length, get_or, set, replicate, sym, refl, ap, ◌∙◌, subst, inl, inr, arith, length-set}
+use Rattle.std.proofs.Common.{◌≡◌, ℕ, ◌^◌, ◌<◌, Bool, true, false, cond, ◌&&◌, eqb, List, [], length, get_or, set, replicate, sym, refl, ap, ◌∙◌, inl, inr, arith, length-set}
 use lib.ListN.{length-replicate}
 use Rattle.std.proofs.lemmas.List.{get_or-set_same, get_or-set_other, get_or-replicate, get_or_past}
-use Rattle.std.proofs.lemmas.Bool.{eq-eqb, ne_eqb, cases_eq, cases_lt, cases_Bool, both_ways}
-use Rattle.automata.specs.declared.sets.StateSet.{StateSet}
-use Rattle.automata.specs.Sets.{bit, no_states}
+use Rattle.std.proofs.lemmas.Bool.{eq-eqb, ne_eqb, cases_eq, cases_lt, both_ways}
+use Rattle.automata.specs.Sets.{bit}
 use Rattle.automata.specs.Held.{RowsOf, Bits32, ends_of, FromWithin, ByWithin, ToWithin}
 use Rattle.automata.proofs.SetLaws.{has-none}
 

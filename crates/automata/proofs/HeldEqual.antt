@@ -1,16 +1,15 @@
 -- Two automata that hold the same are equal, since nothing lies past the counts.
-use Rattle.std.proofs.Common.{◌≡◌, ℕ, ◌^◌, ◌<◌, ◌≤◌, Bool, true, List, [], ◌∷◌, length, get_or, take, sym, refl, ap, ◌∙◌, inl, inr, arith}
+use Rattle.std.proofs.Common.{◌≡◌, ℕ, ◌<◌, ◌≤◌, List, [], length, get_or, take, sym, ap, ◌∙◌, inl, inr, arith}
 use mathlib.Core.HLevel.{is_prop→PathP}
 use denote.Struct.Props.{props}
 use Rattle.std.proofs.lemmas.List.{get_or-take, ext_get_or}
 use Rattle.std.proofs.lemmas.Bool.{cases_lt}
-use Rattle.automata.specs.declared.sets.StateSet.{StateSet}
 use Rattle.automata.specs.declared.signs.Signs.{Signs}
 use Rattle.automata.specs.declared.automaton.Automaton.{Automaton}
 use Rattle.automata.specs.Sets.{bit}
 use Rattle.automata.specs.Signs.{Visible, Apart, BlankPast}
 use Rattle.automata.specs.Held.{Bytes, RowsOf, Bits32, ends_of, Within, FromWithin, ByWithin, ToWithin}
-use Rattle.automata.specs.Drafts.{DraftModel, size, letters}
+use Rattle.automata.specs.Drafts.{DraftModel, size}
 use Rattle.automata.specs.Shown.{sign_bytes, shown}
 use Rattle.automata.proofs.SetLaws.{same_members, same_bits}
 use Rattle.automata.proofs.ShownLaws.{sign_count, shown-size}

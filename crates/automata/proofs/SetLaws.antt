@@ -1,14 +1,14 @@
 -- Sets of states: members after a change, and that a set is known by its members.
-use Rattle.std.proofs.Common.{◌≡◌, ℕ, zero, suc, ◌+◌, ◌-◌, ◌*◌, ◌/◌, ◌%◌, ◌^◌, ◌<◌, ◌≤◌, Bool, true, false, cond, eqb, sym, refl, ap, ◌∙◌, subst, inl, inr, pow-suc, div-add-mod', div-one, arith, pow_mono, shr-shr}
+use Rattle.std.proofs.Common.{◌≡◌, ℕ, zero, suc, ◌-◌, ◌/◌, ◌%◌, ◌^◌, ◌<◌, ◌≤◌, true, false, cond, eqb, sym, refl, ap, ◌∙◌, inl, inr, pow-suc, div-one, arith, pow_mono, shr-shr}
 use mathlib.Core.HLevel.{is_prop→PathP}
 use native.Mathlib.Bridge.{le_prop}
 use native.Mathlib.Nat.{div-eq_of_lt, zero-div}
-use lib.Bits.{bit_and, bit_or, and_mask, or_lt}
+use lib.Bits.{bit_and, bit_or, and_mask}
 use lib.Pow.{pow-lt}
 use Rattle.std.proofs.lemmas.Bool.{eq-eqb, ne_eqb, cases_lt, cases_eq, both_ways}
 use Rattle.automata.specs.declared.sets.StateSet.{StateSet}
 use Rattle.automata.specs.Sets.{bit, has, no_states}
-use Rattle.automata.proofs.Bits.{and_bit, or_bit, own_bit, other_bit, shifted, not_bit32}
+use Rattle.automata.proofs.Bits.{and_bit, or_bit, own_bit, other_bit, not_bit32}
 
 -- one bit, as the code reads it
 pub low_bit : (n : ℕ) → bit_and n 1 ≡ n % 2

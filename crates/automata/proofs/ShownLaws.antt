@@ -1,10 +1,10 @@
 -- What the changes of an automaton's fields mean for what it holds.
-use Rattle.std.proofs.Common.{◌≡◌, ℕ, ◌+◌, ◌<◌, ◌≤◌, Bool, true, cond, ◌&&◌, eqb, ltb, List, [], ◌∷◌, ◌++◌, length, get_or, take, set, sym, refl, ap, ◌∙◌, ap₂, inl, inr, arith, length-set, length-take}
+use Rattle.std.proofs.Common.{◌≡◌, ℕ, ◌+◌, ◌<◌, ◌≤◌, Bool, true, cond, ◌&&◌, eqb, ltb, List, [], ◌∷◌, ◌++◌, length, get_or, take, set, sym, refl, ap, ◌∙◌, inl, inr, arith, length-set, length-take}
 use Rattle.std.proofs.lemmas.List.{take_more_set, get_or-set_same, get_or-set_other, get_or-take, set_past, same_lists, length-take-le}
 use Rattle.std.proofs.lemmas.Bool.{lt-ltb, cases_eq, cases_lt, cond-true}
 use Rattle.automata.specs.declared.signs.Signs.{Signs}
 use Rattle.automata.specs.declared.automaton.Automaton.{Automaton}
-use Rattle.automata.specs.Sets.{bit, has}
+use Rattle.automata.specs.Sets.{bit}
 use Rattle.automata.specs.Signs.{BlankPast}
 use Rattle.automata.specs.Held.{Bytes, ends_of}
 use Rattle.automata.specs.Drafts.{DraftModel, size, letters, with_values, with_arrow}

@@ -1,5 +1,5 @@
 -- What a draft holds: a nondeterministic automaton with a value for each state.
-use Rattle.std.specs.Prelude.{ℕ, Bool, true, false, cond, ◌&&◌, List, [], ◌∷◌, ◌++◌, length, ◌==◌, nat_lt}
+use Rattle.std.specs.Prelude.{ℕ, Bool, false, cond, ◌&&◌, List, [], length, ◌==◌, nat_lt}
 
 pub record DraftModel : Type 0 where
   pub signs : List ℕ

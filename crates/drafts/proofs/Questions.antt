@@ -1,12 +1,13 @@
 -- Questions that are asked in their order: no fault exactly where every answer is yes.
-use Rattle.std.proofs.Common.{◌≡◌, ℕ, Bool, true, false, cond, List, [], ◌∷◌, Some, None, All, refl, ◌∙◌, arith}
+use Rattle.std.proofs.Common.{◌≡◌, ℕ, Bool, true, false, cond, List, [], ◌∷◌, Some, None, refl, ◌∙◌, arith}
 use Rattle.std.proofs.lemmas.Bool.{cond-true}
 use Rattle.automata.specs.Tests.{first_no}
 
 module _ {E : Type 0} where
   -- every answer is yes
   abbrev pub AllYes : List (Bool × E) → Type 0
-  AllYes qs = All (λ q. q.0 ≡ true) qs
+  AllYes [] = Unit {0}
+  AllYes (q ∷ qs) = (q.0 ≡ true) × AllYes qs
 
   pub none_from_yes : (qs : List (Bool × E)) → AllYes qs → first_no qs ≡ None
   none_from_yes [] h = refl

@@ -1,5 +1,5 @@
 -- The six calls on a draft: which is refused and why, what it answers, what it leaves, and lists of calls.
-use Rattle.std.specs.Prelude.{ℕ, Bool, true, false, cond, not, ◌&&◌, List, [], ◌∷◌, ◌++◌, Some, None, Ok, Err, Option, Result, nat_lt, slice_set}
+use Rattle.std.specs.Prelude.{ℕ, Bool, true, false, not, ◌&&◌, List, [], ◌∷◌, ◌++◌, Some, None, Ok, Err, Option, Result, nat_lt, slice_set}
 use Rattle.kinds.specs.Kinds.{KindModel}
 use Rattle.drafts.specs.declared.faults.CallFault.{CallFault}
 use Rattle.drafts.specs.declared.faults.CallFault.TheVariants.{NoState, NoLetter, NotAdmitted, Full, Present, Absent}

@@ -1,5 +1,5 @@
 -- A table whose rows are all filled is the one that is built from the machine.
-use Rattle.std.proofs.Common.{◌≡◌, ℕ, suc, ◌+◌, ◌*◌, ◌/◌, ◌%◌, ◌<◌, ◌≤◌, min, List, [], length, get_or, take, replicate, sym, refl, ap, ◌∙◌, subst, ap₂, inl, inr, mul-le-mul_right, arith}
+use Rattle.std.proofs.Common.{◌≡◌, ℕ, suc, ◌+◌, ◌*◌, ◌/◌, ◌%◌, ◌<◌, ◌≤◌, min, List, length, take, replicate, sym, refl, ap, ◌∙◌, subst, ap₂, inl, inr, mul-le-mul_right, arith}
 use lib.ListN.{length-replicate}
 use Rattle.std.proofs.lemmas.List.{length-take-le}
 use Rattle.std.proofs.lemmas.Bool.{cases_lt}
@@ -16,7 +16,7 @@ use Rattle.machines.proofs.Numbers.{row_fits}
 use Rattle.machines.proofs.Growing.{grown_walked}
 use Rattle.machines.proofs.FirstWords.{walked_built}
 use Rattle.tables.specs.declared.grid.Grid.{Grid}
-use Rattle.tables.specs.Held.{cell, Inside, RowsBlank}
+use Rattle.tables.specs.Held.{cell, RowsBlank}
 use Rattle.tables.specs.Shown.{shown, Blank}
 use Rattle.tables.specs.Filling.{cells_up_to, Filling}
 use Rattle.tables.specs.Builds.{Accepted, Wiped, Refused}
@@ -87,7 +87,16 @@ wiped_of m K signs d t es len h k w =
 
 pub refused : {S : Type 0} (m : MachineModel S) (K : KindModel) (d : S) (es fs : List S) (len : ℕ) (t : Grid) (signs : Signs) → sign_bytes signs ≡ m.signs → m.kind ≡ K
     → Spread m (suc (min 128 (length es))) → length fs ≡ length es → Wiped (sign_bytes signs) K.none d t fs len → Refused m d t fs len
-refused {S} m K d es fs len t signs h k s l w = record {
-  many = subst (λ (n : ℕ). Spread m (suc (min 128 n))) (sym l) s;
-  wiped = wiped_of m K (sign_bytes signs) d t fs len h k w;
-}
+refused {S} m K d es fs len t signs h k s l w =
+    let v = wiped_of m K (sign_bytes signs) d t fs len h k w in
+    record {
+      many = subst (λ (n : ℕ). Spread m (suc (min 128 n))) (sym l) s;
+      signs = v.signed;
+      blank = v.blank;
+      unlisted = v.unlisted;
+      blank_roll = v.blank_roll;
+    }
+
+-- what a refused build leaves is wiped
+pub left_wiped : {S : Type 0} (m : MachineModel S) (d : S) (t : Grid) (es : List S) (len : ℕ) → Refused m d t es len → Wiped m.signs m.kind.none d t es len
+left_wiped m d t es len r = record { signed = r.signs; blank = r.blank; unlisted = r.unlisted; blank_roll = r.blank_roll }

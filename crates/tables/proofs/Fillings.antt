@@ -1,21 +1,17 @@
 -- A table filled value by value and cell by cell.
-use Rattle.std.proofs.Common.{◌≡◌, ℕ, zero, suc, ◌+◌, ◌*◌, ◌/◌, ◌%◌, ◌<◌, ◌≤◌, min, Bool, true, false, cond, ◌&&◌, eqb, ◌≢◌, ◌⊎◌, List, [], ◌∷◌, ◌++◌, length, get_or, take, set, replicate, sym, refl, ap, ◌∙◌, subst, ap₂, inl, inr, add-mul, div-add-mod', arith, length-set, length-take}
+use Rattle.std.proofs.Common.{◌≡◌, ℕ, suc, ◌+◌, ◌*◌, ◌/◌, ◌%◌, ◌<◌, ◌≤◌, min, cond, ◌&&◌, eqb, ◌⊎◌, List, [], ◌∷◌, ◌++◌, length, get_or, take, set, replicate, sym, refl, ap, ◌∙◌, subst, ap₂, inl, inr, add-mul, div-add-mod', arith, length-set}
 use lib.ListN.{length-replicate}
-use Rattle.std.proofs.lemmas.List.{get_or-take, get_or_default, get_or_past, get_or-set_same, get_or-set_other, get_or-replicate, take_more_set, take_all, length-take-le, set_past}
+use Rattle.std.proofs.lemmas.List.{get_or-take, get_or_default, get_or_past, get_or-set_other, get_or-replicate, take_more_set, length-take-le}
 use Rattle.std.proofs.lemmas.Bool.{cases_eq, cases_lt, eq-eqb, ne_eqb}
-use Rattle.automata.specs.Signs.{BlankPast}
-use Rattle.automata.specs.Held.{Bytes, RowsOf}
 use Rattle.automata.proofs.ArrowLaws.{written, written-ends, written-rows}
 use Rattle.automata.proofs.ShownLaws.{set-bytes, set-blank}
 use Rattle.automata.proofs.SignLaws.{decides_counted, accepted-parts}
-use Rattle.drafts.specs.Words.{tabulate}
 use Rattle.drafts.proofs.Tabulates.{length-tabulate, get_d_tabulate, is_tabulate, tabulate-more}
 use Rattle.machines.specs.Models.{MachineModel, alphabet, Spread}
 use Rattle.machines.specs.Built.{entry}
-use Rattle.machines.proofs.Numbers.{divide, one_cell}
 use Rattle.machines.proofs.Growing.{Grown, grown-start, grown-value, grown_known, grown_new, grown_row, grown-more}
 use Rattle.rolls.specs.Rolls.{Found, Added, Full}
-use Rattle.tables.specs.Held.{cell, ColumnsBlank}
+use Rattle.tables.specs.Held.{cell}
 use Rattle.tables.specs.Filling.{cells_up_to, Filling}
 use Rattle.tables.proofs.Cells.{cell_at}
 use Rattle.tables.proofs.GridLaws.{no_cells, row_none, cell-none}

@@ -1,7 +1,6 @@
 -- The laws of built tables.
-use Rattle.std.proofs.Common.{◌≡◌, ℕ, ◌≤◌, sym, ap, ◌∙◌, subst, arith}
+use Rattle.std.proofs.Common.{ℕ, ◌≤◌, sym, ◌∙◌, subst, arith}
 use Rattle.machines.specs.Models.{Spread}
-use Rattle.machines.specs.Tables.{count}
 use Rattle.machines.proofs.Building.{build_laws_lem}
 use Rattle.tables.specs.Shown.{shown}
 use Rattle.tables.specs.TableLaws.{TableLaws}

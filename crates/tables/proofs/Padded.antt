@@ -1,13 +1,12 @@
 -- Lists of a fixed length whose first places hold the values of a function, and tests of all places of a list.
-use Rattle.std.proofs.Common.{◌≡◌, ℕ, ◌+◌, ◌*◌, ◌/◌, ◌%◌, ◌<◌, ◌≤◌, Bool, true, false, cond, ltb, List, [], length, get_or, set, replicate, Decides, sym, refl, ap, ◌∙◌, inl, inr, arith, length-set}
+use Rattle.std.proofs.Common.{◌≡◌, ℕ, ◌+◌, ◌<◌, ◌≤◌, Bool, true, false, cond, ltb, length, get_or, set, replicate, Decides, sym, refl, ap, ◌∙◌, inl, inr, arith, length-set}
 use lib.ListN.{length-replicate}
 use Rattle.std.proofs.lemmas.List.{get_or-set_same, get_or-set_other, get_or-replicate}
-use Rattle.std.proofs.lemmas.Bool.{cases_lt, cases_eq, cases_Bool, both_ways, lt-ltb, le-ltb, ltb-true, cond-true, cond-false}
+use Rattle.std.proofs.lemmas.Bool.{cases_lt, cases_eq, cases_Bool, both_ways, lt-ltb, le-ltb, cond-true, cond-false}
 use Rattle.std.proofs.lemmas.Bool.Decides.{Decides-below_and}
 use Rattle.automata.specs.Tests.{every}
-use Rattle.drafts.specs.Words.{tabulate}
 use Rattle.drafts.proofs.Tabulates.{length-tabulate, get_d_tabulate, get_or_tabulate_past, is_tabulate}
-use Rattle.tables.specs.Laying.{all_below, padded}
+use Rattle.tables.specs.Laying.{padded}
 
 module _ {A : Type 0} (m : ℕ) (d : A) (f : ℕ → A) where
   -- what stands in the place k where n places are filled

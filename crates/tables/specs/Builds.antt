@@ -1,6 +1,5 @@
 -- What building a machine leaves: its table and the roll of its states, or blanks where it reaches too many.
 use Rattle.std.specs.Prelude.{◌≡◌, ℕ, suc, ◌≤◌, min, List, length, take, replicate, Ok, Err, Result, slice_index_or}
-use Rattle.automata.specs.declared.signs.Signs.{Signs}
 use Rattle.automata.specs.Shown.{sign_bytes}
 use Rattle.machines.specs.Models.{MachineModel, Spread}
 use Rattle.machines.specs.Built.{Built}
@@ -27,10 +26,13 @@ pub record Wiped {S : Type 0} (signs : List ℕ) (none : ℕ) (d : S) (t : Grid)
   pub unlisted : len ≡ 0
   pub blank_roll : es ≡ replicate (length es) d
 
--- More states are reached than 128 or than there are entries; nothing is left.
+-- More states are reached than 128 or than there are entries; the table is blank, and the roll empty and blank.
 pub record Refused {S : Type 0} (m : MachineModel S) (d : S) (t : Grid) (es : List S) (len : ℕ) : Type 0 where
   pub many : Spread m (suc (min 128 (length es)))
-  pub wiped : Wiped m.signs m.kind.none d t es len
+  pub signs : sign_bytes t.signs ≡ m.signs
+  pub blank : Blank t.signs m.kind.none t
+  pub unlisted : len ≡ 0
+  pub blank_roll : es ≡ replicate (length es) d
 
 abbrev pub Ended : {S U : Type 0} → MachineModel S → S → Grid → List S → ℕ → Result U BuildFault → Type 0
 Ended m d t es len (Ok u) = Accepted m d t es len

@@ -1,5 +1,5 @@
 -- What the fields of every grid keep: cells lead to states, and nothing lies past the counts.
-use Rattle.std.specs.Prelude.{◌≡◌, ℕ, ◌<◌, ◌≤◌, List, [], length, slice_index, slice_index_or}
+use Rattle.std.specs.Prelude.{◌≡◌, ℕ, ◌<◌, ◌≤◌, List, [], slice_index, slice_index_or}
 
 -- the cell in row i under the letter a
 abbrev pub cell : List (List ℕ) → ℕ → ℕ → ℕ

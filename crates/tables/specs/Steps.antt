@@ -1,5 +1,5 @@
 -- What a part of a build leaves: a table filled further, or the reason of a refusal.
-use Rattle.std.specs.Prelude.{◌≡◌, ℕ, suc, ◌+◌, ◌≤◌, min, List, length, Ok, Err, Result}
+use Rattle.std.specs.Prelude.{◌≡◌, ℕ, suc, ◌+◌, min, List, length, Ok, Err, Result}
 use Rattle.machines.specs.Models.{MachineModel, Spread}
 use Rattle.tables.specs.Filling.{Filling}
 

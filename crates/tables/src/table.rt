@@ -16,7 +16,7 @@ pub struct Table<K> {
 impl<K: Kind> Table<K> {
     // One state with no value, which leads to itself.
     pub fn blank(signs: Signs) -> Table<K>
-        ensures { Blank signs model.none result.grid }
+        ensures { Blank signs K.model.none result.grid }
     {
         Table::of(Grid::blank(signs, K::none()))
     }

@@ -45,8 +45,8 @@ fn check_arrow(
 impl<K: Kind> Draft<K> {
     // Adds a state with this value, and answers its number.
     pub fn grow(&mut self, value: u8) -> Result<usize, CallFault>
-        ensures answer { result ≡ unless (refusal model (drawn self.old) (Grow value)) (size (drawn self.old)) }
-        ensures left { drawn self.new ≡ after model (drawn self.old) (Grow value) }
+        ensures answer { result ≡ unless (refusal K.model (drawn self.old) (Grow value)) (size (drawn self.old)) }
+        ensures left { drawn self.new ≡ after K.model (drawn self.old) (Grow value) }
         ensures kept { is_err result ≡ true → self.new ≡ self.old }
     {
         if !K::admits(value) {
@@ -62,8 +62,8 @@ impl<K: Kind> Draft<K> {
 
     // Adds an arrow.
     pub fn link(&mut self, from: usize, letter: usize, to: usize) -> Result<(), CallFault>
-        ensures answer { result ≡ unless (refusal model (drawn self.old) (Link from letter to)) tt }
-        ensures left { drawn self.new ≡ after model (drawn self.old) (Link from letter to) }
+        ensures answer { result ≡ unless (refusal K.model (drawn self.old) (Link from letter to)) tt }
+        ensures left { drawn self.new ≡ after K.model (drawn self.old) (Link from letter to) }
         ensures kept { is_err result ≡ true → self.new ≡ self.old }
     {
         check_arrow(&self.automaton, from, letter, to)?;
@@ -76,8 +76,8 @@ impl<K: Kind> Draft<K> {
 
     // Removes an arrow.
     pub fn unlink(&mut self, from: usize, letter: usize, to: usize) -> Result<(), CallFault>
-        ensures answer { result ≡ unless (refusal model (drawn self.old) (Unlink from letter to)) tt }
-        ensures left { drawn self.new ≡ after model (drawn self.old) (Unlink from letter to) }
+        ensures answer { result ≡ unless (refusal K.model (drawn self.old) (Unlink from letter to)) tt }
+        ensures left { drawn self.new ≡ after K.model (drawn self.old) (Unlink from letter to) }
         ensures kept { is_err result ≡ true → self.new ≡ self.old }
     {
         check_arrow(&self.automaton, from, letter, to)?;
@@ -90,8 +90,8 @@ impl<K: Kind> Draft<K> {
 
     // Makes a state an entry state.
     pub fn enter(&mut self, state: usize) -> Result<(), CallFault>
-        ensures answer { result ≡ unless (refusal model (drawn self.old) (Enter state)) tt }
-        ensures left { drawn self.new ≡ after model (drawn self.old) (Enter state) }
+        ensures answer { result ≡ unless (refusal K.model (drawn self.old) (Enter state)) tt }
+        ensures left { drawn self.new ≡ after K.model (drawn self.old) (Enter state) }
         ensures kept { is_err result ≡ true → self.new ≡ self.old }
     {
         check_state(&self.automaton, state)?;
@@ -104,8 +104,8 @@ impl<K: Kind> Draft<K> {
 
     // Ends that a state is an entry state.
     pub fn leave(&mut self, state: usize) -> Result<(), CallFault>
-        ensures answer { result ≡ unless (refusal model (drawn self.old) (Leave state)) tt }
-        ensures left { drawn self.new ≡ after model (drawn self.old) (Leave state) }
+        ensures answer { result ≡ unless (refusal K.model (drawn self.old) (Leave state)) tt }
+        ensures left { drawn self.new ≡ after K.model (drawn self.old) (Leave state) }
         ensures kept { is_err result ≡ true → self.new ≡ self.old }
     {
         check_state(&self.automaton, state)?;
@@ -118,8 +118,8 @@ impl<K: Kind> Draft<K> {
 
     // Replaces the value of a state.
     pub fn rate(&mut self, state: usize, value: u8) -> Result<(), CallFault>
-        ensures answer { result ≡ unless (refusal model (drawn self.old) (Rate state value)) tt }
-        ensures left { drawn self.new ≡ after model (drawn self.old) (Rate state value) }
+        ensures answer { result ≡ unless (refusal K.model (drawn self.old) (Rate state value)) tt }
+        ensures left { drawn self.new ≡ after K.model (drawn self.old) (Rate state value) }
         ensures kept { is_err result ≡ true → self.new ≡ self.old }
     {
         check_state(&self.automaton, state)?;

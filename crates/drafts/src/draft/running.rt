@@ -11,8 +11,8 @@ use std::alloc::{AllocError, Global};
 impl<K: Kind> Draft<K> {
     // Makes one call that is given as data.
     pub fn apply(&mut self, call: Call) -> Result<Answer, CallFault>
-        ensures answer { result ≡ outcome model (drawn self.old) call }
-        ensures left { drawn self.new ≡ after model (drawn self.old) call }
+        ensures answer { result ≡ outcome K.model (drawn self.old) call }
+        ensures left { drawn self.new ≡ after K.model (drawn self.old) call }
         ensures kept { is_err result ≡ true → self.new ≡ self.old }
     {
         match call {
@@ -50,8 +50,8 @@ impl<K: Kind> Draft<K> {
         heap: Global,
         calls: &[Call],
     ) -> Result<Vec<Result<Answer, CallFault>>, AllocError>
-        ensures answers { IfOk result (λ v. v.items ≡ outcomes model (drawn self.old) calls.now) }
-        ensures left { OnOk result (drawn self.new ≡ after_all model (drawn self.old) calls.now) }
+        ensures answers { IfOk result (λ v. v.items ≡ outcomes K.model (drawn self.old) calls.now) }
+        ensures left { OnOk result (drawn self.new ≡ after_all K.model (drawn self.old) calls.now) }
         ensures kept { is_err result ≡ true → self.new ≡ self.old }
     {
         let mut answers = Vec::with_capacity(heap, calls.len())?;

@@ -44,7 +44,7 @@ impl From<RollFault> for BuildFault {
 // The value of state i of the roll.
 fn value_of<M: Machine>(machine: &M, roll: &Roll<'_, M::State>, i: usize) -> u8
     requires { i < roll.now.len }
-    ensures { result ≡ (meaning machine.now).value (slice_index_or roll.now.entries.now i M.State.State.blank) }
+    ensures { result ≡ (M.meaning machine.now).value (slice_index_or roll.now.entries.now i M.State.State.blank) }
 {
     match roll.get(i) {
         Some(state) => machine.value(state),
@@ -55,7 +55,7 @@ fn value_of<M: Machine>(machine: &M, roll: &Roll<'_, M::State>, i: usize) -> u8
 // Where a letter leads from state i of the roll.
 fn step_of<M: Machine>(machine: &M, roll: &Roll<'_, M::State>, i: usize, letter: usize) -> M::State
     requires { i < roll.now.len }
-    ensures { result ≡ (meaning machine.now).step (slice_index_or roll.now.entries.now i M.State.State.blank) letter }
+    ensures { result ≡ (M.meaning machine.now).step (slice_index_or roll.now.entries.now i M.State.State.blank) letter }
 {
     match roll.get(i) {
         Some(state) => machine.step(state, letter),
@@ -72,12 +72,12 @@ fn fill_row<M: Machine>(
     next: &mut [[u8; 16]; 128],
     roll: &mut Roll<'_, M::State>,
 ) -> Result<(), BuildFault>
-    requires letters { letters ≡ alphabet (meaning machine.now) }
+    requires letters { letters ≡ alphabet (M.meaning machine.now) }
     requires listed { i < roll.old.len }
-    requires filling { Filling (meaning machine.now) M.State.State.blank roll.old.entries.now roll.old.len values.old i next.old i 0 }
+    requires filling { Filling (M.meaning machine.now) M.State.State.blank roll.old.entries.now roll.old.len values.old i next.old i 0 }
     ensures loan { roll.new.entries.ghost_name ≡ roll.old.entries.ghost_name }
     ensures long { length roll.new.entries.now ≡ length roll.old.entries.now }
-    ensures ended { RowEnd (meaning machine.now) M.State.State.blank roll.new.entries.now roll.new.len values.new next.new i result }
+    ensures ended { RowEnd (M.meaning machine.now) M.State.State.blank roll.new.entries.now roll.new.len values.new next.new i result }
     ensures listed { i < roll.new.len }
 {
     values[i] = value_of(machine, roll, i);
@@ -100,14 +100,14 @@ fn walk<M: Machine>(
     next: &mut [[u8; 16]; 128],
     roll: &mut Roll<'_, M::State>,
 ) -> Result<usize, BuildFault>
-    requires letters { letters ≡ alphabet (meaning machine.now) }
+    requires letters { letters ≡ alphabet (M.meaning machine.now) }
     requires blank_values { values.old ≡ replicate 128 0 }
     requires blank_next { next.old ≡ replicate 128 (replicate 16 0) }
     requires blank_roll { roll.old.entries.now ≡ replicate (length roll.old.entries.now) M.State.State.blank }
     requires unlisted { roll.old.len ≡ 0 }
     ensures loan { roll.new.entries.ghost_name ≡ roll.old.entries.ghost_name }
     ensures long { length roll.new.entries.now ≡ length roll.old.entries.now }
-    ensures ended { WalkEnd (meaning machine.now) M.State.State.blank roll.new.entries.now roll.new.len values.new next.new result }
+    ensures ended { WalkEnd (M.meaning machine.now) M.State.State.blank roll.new.entries.now roll.new.len values.new next.new result }
 {
     roll.place(machine.start())?;
     let mut i = 0;
@@ -138,7 +138,7 @@ pub fn build<M: Machine>(
 ) -> Result<(), BuildFault>
     ensures loan { roll.new.entries.ghost_name ≡ roll.old.entries.ghost_name }
     ensures long { length roll.new.entries.now ≡ length roll.old.entries.now }
-    ensures ended { Ended (meaning machine.now) M.State.State.blank table.new.grid roll.new.entries.now roll.new.len result }
+    ensures ended { Ended (M.meaning machine.now) M.State.State.blank table.new.grid roll.new.entries.now roll.new.len result }
 {
     let signs = machine.signs();
     let mut values = [0; 128];

@@ -64,7 +64,7 @@ fn all_below(next: &[usize], count: usize) -> bool
 
 // Whether each value is admitted.
 fn all_admitted<K: Kind>(values: &[u8]) -> bool
-    ensures { result ≡ admits_all model values.now }
+    ensures { result ≡ admits_all K.model values.now }
 {
     for k in 0..values.len() {
         if !K::admits(values[k]) {
@@ -121,7 +121,7 @@ pub fn lay<K: Kind>(
     values: &[u8],
     next: &[usize],
 ) -> Result<Table<K>, LayFault>
-    ensures { Laid model signs.now count values.now next.now result }
+    ensures { Laid K.model signs.now count values.now next.now result }
 {
     let signs = Signs::new(signs)?;
     let letters = signs.len();

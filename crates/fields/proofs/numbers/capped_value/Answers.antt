@@ -12,8 +12,8 @@ use Rattle.fields.proofs.numbers.capped_value.Goals as goal
 digit : (xs : List ℕ) (i : ℕ) → all_ascii_digits xs ≡ true → i < length xs → IsInRange 48 57 (get_or xs i 0)
 digit xs i all h = digit_at xs i (digits.to xs all) h
 
-pub overflow-sub-b : goal.overflow-sub-b
-overflow-sub-b c = omega (arith, digit c.args.field.now c.loop-b.b-index c.requires c.loop-b-test.true)
+pub overflow_sub-b : goal.overflow_sub-b
+overflow_sub-b c = omega (arith, digit c.args.field.now c.loop-b.b-index c.requires c.loop-b-test.true)
 
 pub loop-b-preserved : goal.loop-b-preserved
 loop-b-preserved c =

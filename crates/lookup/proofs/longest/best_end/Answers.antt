@@ -25,10 +25,10 @@ loop-place-preserved g c =
     let text = c.args.text.now in
     let s = c.in-Some.ensures in
     let f = ap (λ (x : Signs). sign_bytes x) c.signs-signs.ensures in
-    let led = led-more K t text c.loop-place.place c.loop-place.state c.in-Some.letter c.next-state-state.result c.loop-place.invariant.0 c.loop-place-test.true
+    let led = led-more K t text c.loop-place.place c.loop-place.state c.in-Some.letter c.next_state-state.result c.loop-place.invariant.0 c.loop-place-test.true
     (subst (λ (xs : List ℕ). c.in-Some.letter < length xs) f s.0) (subst (λ (xs : List ℕ). get_or xs c.in-Some.letter 0 ≡ get_or text c.loop-place.place 0) f s.1)
-    c.next-state-state.ensures in (
+    c.next_state-state.ensures in (
       led,
       subst (BestTo g.K.Kind.model c.args.grid.now c.args.text.now (c.loop-place.place + 1)) (sym c.keep-best-in-Some.ensures)
-          (keep_more K t text c.loop-place.place c.next-state-state.result c.loop-place.best led c.loop-place.invariant.1),
+          (keep_more K t text c.loop-place.place c.next_state-state.result c.loop-place.best led c.loop-place.invariant.1),
     )

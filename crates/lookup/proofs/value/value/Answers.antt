@@ -19,9 +19,9 @@ loop-place-preserved g c =
     let signs = c.signs-signs.ensures ∙ ap (λ (x : Grid). x.signs) e in
     let s = c.in-Some.ensures in
     let f = ap (λ (x : Signs). sign_bytes x) signs in
-    led-more g.K.Kind.model t text c.loop-place.place c.loop-place.state c.in-Some.letter c.next-state-state.result c.loop-place.invariant c.loop-place-test.true
+    led-more g.K.Kind.model t text c.loop-place.place c.loop-place.state c.in-Some.letter c.next_state-state.result c.loop-place.invariant c.loop-place-test.true
     (subst (λ (xs : List ℕ). c.in-Some.letter < length xs) f s.0) (subst (λ (xs : List ℕ). get_or xs c.in-Some.letter 0 ≡ get_or text c.loop-place.place 0) f s.1)
-    (c.next-state-state.ensures ∙ ap (λ (x : Grid). table_step (length (sign_bytes x.signs)) (shown x) c.loop-place.state c.in-Some.letter) e)
+    (c.next_state-state.ensures ∙ ap (λ (x : Grid). table_step (length (sign_bytes x.signs)) (shown x) c.loop-place.state c.in-Some.letter) e)
 
 pub returns : goal.returns
 returns g c =
@@ -31,7 +31,7 @@ returns g c =
     let end : c.loop-place.place ≡ length c.args.text.now = omega (arith, c.loop-place.auto.place-end, c.loop-place-test.false) in (
       i.0,
       subst (λ (x : List ℕ). Spells (sign_bytes c.args.table.now.grid.signs) x i.0) (ap (λ (n : ℕ). take n c.args.text.now) end ∙ take_all (length text) text (omega arith)) i.1,
-      c.state-value.ensures
+      c.state_value.ensures
           ∙ (ap (λ (x : Grid). clean g.K.Kind.model (value_of_state g.K.Kind.model (shown x) c.loop-place.state)) c.grid-grid.ensures
           ∙ led-says g.K.Kind.model t text c.loop-place.place c.loop-place.state i),
     )

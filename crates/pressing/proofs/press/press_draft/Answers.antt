@@ -9,14 +9,14 @@ use Rattle.pressing.proofs.press.press_draft.Goals as goal
 pub returns : goal.returns
 returns g c =
     let d = c.args.draft.now in
-    let e = c.build-twice.ensures in
+    let e = c.build_twice.ensures in
     let ok = accepted d.automaton.signs in
     let laws = draft_view_laws g.K.Kind.model (drawn d) (omega (arith, shown-size d.automaton, d.automaton.few)) ok in
     record {
-      columns-loan = e.roll-loan;
-      columns-long = e.roll-long;
-      chart-loan = e.chart-loan;
-      chart-long = e.chart-long;
+      columns-loan = e.roll_loan;
+      columns-long = e.roll_long;
+      chart-loan = e.chart_loan;
+      chart-long = e.chart_long;
       ended = e.ended;
-      says = draft-ends g.K.Kind.model (drawn d) ok laws _ _ c.build-twice.result e.ended;
+      says = draft-ends g.K.Kind.model (drawn d) ok laws _ _ c.build_twice.result e.ended;
     }

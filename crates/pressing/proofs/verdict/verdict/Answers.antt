@@ -10,14 +10,14 @@ use Rattle.pressing.proofs.verdict.verdict.Goals as goal
 pub returns : goal.returns
 returns g c =
     let d = c.args.draft.now in
-    let q = c.in-ok-press-draft.ensures in
-    let n = c.state-count.ensures ∙ ap (λ (a : Automaton). size (shown a)) c.automaton-automaton.ensures in
-    let inside : c.args.state < size (drawn d) = omega (arith, n, c.if-state-state-count.false) in
+    let q = c.in_ok-press_draft.ensures in
+    let n = c.state_count.ensures ∙ ap (λ (a : Automaton). size (shown a)) c.automaton-automaton.ensures in
+    let inside : c.args.state < size (drawn d) = omega (arith, n, c.if-state-state_count.false) in
     record {
-      columns-loan = c.press-draft.ensures.columns-loan;
-      columns-long = c.press-draft.ensures.columns-long;
-      chart-loan = c.press-draft.ensures.chart-loan;
-      chart-long = c.press-draft.ensures.chart-long;
+      columns-loan = c.press_draft.ensures.columns_loan;
+      columns-long = c.press_draft.ensures.columns_long;
+      chart-loan = c.press_draft.ensures.chart_loan;
+      chart-long = c.press_draft.ensures.chart_long;
       ended = (inside, q.ended, c.judge.ensures);
       means = verdict_means g.K.Kind.model (drawn d) (accepted d.automaton.signs) _ _ q.ended c.args.state inside c.judge.result c.judge.ensures;
     }

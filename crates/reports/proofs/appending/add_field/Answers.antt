@@ -4,5 +4,5 @@ use Rattle.reports.proofs.appending.add_field.Goals as goal
 
 pub returns : goal.returns
 returns c =
-    adds_then (vec_items c.args.out.now) (vec_items c.extend-from-slice.new.self) (vec_items c.add-number.new.out) (9 ∷ []) (decimal c.args.number)
-    c.add-number.result c.in-ok-extend-from-slice.ensures.items c.add-number.ensures
+    adds_then (vec_items c.args.out.now) (vec_items c.extend_from_slice.new.self) (vec_items c.add_number.new.out) (9 ∷ []) (decimal c.args.number)
+    c.add_number.result c.in_ok-extend_from_slice.ensures.items c.add_number.ensures

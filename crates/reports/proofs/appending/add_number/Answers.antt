@@ -8,20 +8,20 @@ use Rattle.reports.proofs.appending.add_number.Goals as goal
 twenty : (n : ℕ) → n < 2 ^ 64 → length (decimal n) ≤ 20
 twenty n h = length-decimal-le 20 n (omega arith) (omega arith) (omega arith)
 
-pub slice-bounds-digits-end : goal.slice-bounds-digits-end
-slice-bounds-digits-end c =
-    let p = c.put-number-end.ensures.puts in
+pub slice_bounds-digits-end : goal.slice_bounds-digits-end
+slice_bounds-digits-end c =
+    let p = c.put_number-end.ensures.puts in
     omega (arith, p.place, p.size, twenty c.args.number (omega arith))
 
-pub slice-bounds-extend-from-slice-end : goal.slice-bounds-extend-from-slice-end
-slice-bounds-extend-from-slice-end c =
-    let p = c.put-number-end.ensures.puts in
-    sym (length-take-le c.put-number-end.result c.put-number-end.new.out (omega (arith, p.place, p.size, twenty c.args.number (omega arith))))
+pub slice_bounds-extend_from_slice-end : goal.slice_bounds-extend_from_slice-end
+slice_bounds-extend_from_slice-end c =
+    let p = c.put_number-end.ensures.puts in
+    sym (length-take-le c.put_number-end.result c.put_number-end.new.out (omega (arith, p.place, p.size, twenty c.args.number (omega arith))))
 
 pub returns : goal.returns
 returns c =
-    let p = c.put-number-end.ensures.puts in
+    let p = c.put_number-end.ensures.puts in
     let front = puts_front p (omega (arith, p.place, twenty c.args.number (omega arith))) in
     let before = vec_items c.args.out.now in
-    adds_by before (vec_items c.extend-from-slice.new.self) (decimal c.args.number) c.extend-from-slice.result
-    (c.extend-from-slice.ensures.items ∙ ap (λ (t : List ℕ). cond (is_ok c.extend-from-slice.result) (before ++ t) before) front)
+    adds_by before (vec_items c.extend_from_slice.new.self) (decimal c.args.number) c.extend_from_slice.result
+    (c.extend_from_slice.ensures.items ∙ ap (λ (t : List ℕ). cond (is_ok c.extend_from_slice.result) (before ++ t) before) front)

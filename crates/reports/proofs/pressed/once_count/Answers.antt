@@ -15,5 +15,5 @@ returns-in-Ok g c =
       record { table = c.once.new.table.grid; entries = c.once.new.roll.entries.now; len = c.once.new.roll.len },
       q.ended,
       long,
-      c.state-count.ensures ∙ (ap (λ (t : Grid). count (shown t)) c.grid.ensures ∙ shown-count c.once.new.table.grid),
+      c.state_count.ensures ∙ (ap (λ (t : Grid). count (shown t)) c.grid.ensures ∙ shown-count c.once.new.table.grid),
     )

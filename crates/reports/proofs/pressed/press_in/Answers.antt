@@ -26,25 +26,25 @@ returns-in-Ok g c =
     let K = g.K.Kind.model in
     let d = c.args.draft.now in
     let ok = accepted d.automaton.signs in
-    let back : Left Colouring = record { table = c.press-draft.new.back.grid; entries = c.press-draft.new.columns.entries.now; len = c.press-draft.new.columns.len } in
-    let last : Left Colouring = record { table = c.press-draft.new.last.grid; entries = c.press-draft.new.chart.entries.now; len = c.press-draft.new.chart.len } in
+    let back : Left Colouring = record { table = c.press_draft.new.back.grid; entries = c.press_draft.new.columns.entries.now; len = c.press_draft.new.columns.len } in
+    let last : Left Colouring = record { table = c.press_draft.new.last.grid; entries = c.press_draft.new.chart.entries.now; len = c.press_draft.new.chart.len } in
     let q = c.in-Ok.ensures in
-    let columns = q.columns-long ∙ (ap length c.fresh-columns.ensures.items ∙ (length-replicate (length c.args.columns.now) (plain 0) ∙ c.requires.columns)) in
-    let chart = q.chart-long ∙ (ap length c.fresh-chart.ensures.items ∙ (length-replicate (length c.args.chart.now) (plain 0) ∙ c.requires.chart)) in
-    let told = c.first-told-told.result in
-    let onces = c.once-count-onces.result in
-    let states = c.state-count.ensures ∙ ap (λ (a : Automaton). size (automata.shown a)) c.automaton-automaton.ensures in
-    let first = subst (λ (n : ℕ). FirstTold K back.entries back.len last.entries last.len n told) states c.first-told-told.ensures in
-    let backs = c.state-count-in-Ok.ensures ∙ (ap (λ (t : Grid). count (shown t)) c.grid-in-Ok.ensures ∙ shown-count c.press-draft.new.back.grid) in
+    let columns = q.columns_long ∙ (ap length c.fresh-columns.ensures.items ∙ (length-replicate (length c.args.columns.now) (plain 0) ∙ c.requires.columns)) in
+    let chart = q.chart_long ∙ (ap length c.fresh-chart.ensures.items ∙ (length-replicate (length c.args.chart.now) (plain 0) ∙ c.requires.chart)) in
+    let told = c.first_told-told.result in
+    let onces = c.once_count-onces.result in
+    let states = c.state_count.ensures ∙ ap (λ (a : Automaton). size (automata.shown a)) c.automaton-automaton.ensures in
+    let first = subst (λ (n : ℕ). FirstTold K back.entries back.len last.entries last.len n told) states c.first_told-told.ensures in
+    let backs = c.state_count-in-Ok.ensures ∙ (ap (λ (t : Grid). count (shown t)) c.grid-in-Ok.ensures ∙ shown-count c.press_draft.new.back.grid) in
     draft-prints K c.args.letter (drawn d) ok back last (length c.args.sets.now) columns chart (Ok tt) q.ended vec_items
-    (λ v. vec_items v ≡ report_text c.args.letter (sign_bytes c.grid.result.now.signs) (shown c.grid.result.now) c.state-count-in-Ok.result told onces)
+    (λ v. vec_items v ≡ report_text c.args.letter (sign_bytes c.grid.result.now.signs) (shown c.grid.result.now) c.state_count-in-Ok.result told onces)
     c.report.result
     (λ v e. record {
       told = told;
       first = first;
       means = λ made. told-means K (drawn d) ok back last q.ended made told first;
       onces = onces;
-      once = c.once-count-onces.ensures;
+      once = c.once_count-onces.ensures;
       prints = e ∙ (λ i. report_text c.args.letter (sign_bytes (c.grid.ensures i).signs) (shown (c.grid.ensures i)) (backs i) told onces);
     })
     c.report.ensures
@@ -54,11 +54,11 @@ returns-in-Err g c =
     let K = g.K.Kind.model in
     let d = c.args.draft.now in
     let ok = accepted d.automaton.signs in
-    let back : Left Colouring = record { table = c.press-draft.new.back.grid; entries = c.press-draft.new.columns.entries.now; len = c.press-draft.new.columns.len } in
-    let last : Left Colouring = record { table = c.press-draft.new.last.grid; entries = c.press-draft.new.chart.entries.now; len = c.press-draft.new.chart.len } in
+    let back : Left Colouring = record { table = c.press_draft.new.back.grid; entries = c.press_draft.new.columns.entries.now; len = c.press_draft.new.columns.len } in
+    let last : Left Colouring = record { table = c.press_draft.new.last.grid; entries = c.press_draft.new.chart.entries.now; len = c.press_draft.new.chart.len } in
     let q = c.in-Err.ensures in
-    let columns = q.columns-long ∙ (ap length c.fresh-columns.ensures.items ∙ (length-replicate (length c.args.columns.now) (plain 0) ∙ c.requires.columns)) in
-    let chart = q.chart-long ∙ (ap length c.fresh-chart.ensures.items ∙ (length-replicate (length c.args.chart.now) (plain 0) ∙ c.requires.chart)) in
+    let columns = q.columns_long ∙ (ap length c.fresh-columns.ensures.items ∙ (length-replicate (length c.args.columns.now) (plain 0) ∙ c.requires.columns)) in
+    let chart = q.chart_long ∙ (ap length c.fresh-chart.ensures.items ∙ (length-replicate (length c.args.chart.now) (plain 0) ∙ c.requires.chart)) in
     draft-prints K c.args.letter (drawn d) ok back last (length c.args.sets.now) columns chart (Err c.in-Err.fault) q.ended vec_items
-    (λ v. vec_items v ≡ refusal_line c.plain.result) c.refusal-text.result
-    (λ v e. e ∙ ap refusal_line (c.plain.ensures ∙ ap (λ (n : ℕ). told n 0 0 0) c.number.ensures)) c.refusal-text.ensures
+    (λ v. vec_items v ≡ refusal_line c.plain.result) c.refusal_text.result
+    (λ v e. e ∙ ap refusal_line (c.plain.ensures ∙ ap (λ (n : ℕ). told n 0 0 0) c.number.ensures)) c.refusal_text.ensures

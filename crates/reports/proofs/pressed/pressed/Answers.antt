@@ -13,4 +13,4 @@ returns-in-Ok c =
     let d = model_of c.in-Ok.draft in
     let e = c.in-Ok.ensures in
     made-map (λ v. DraftPrints (kind_of (letter_of_byte c.in-Ok.draft)) (letter_of_byte c.in-Ok.draft) (model_of c.in-Ok.draft) 128 (vec_items v)) (λ v. Prints c.args.text.now (vec_items v))
-    c.press-any.result (λ v p. subst (λ r. ReadPrints r (vec_items v)) (sym e) (read_made text k d e, p)) c.press-any.ensures
+    c.press_any.result (λ v p. subst (λ r. ReadPrints r (vec_items v)) (sym e) (read_made text k d e, p)) c.press_any.ensures

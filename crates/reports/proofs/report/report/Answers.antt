@@ -9,5 +9,5 @@ pub returns : goal.returns
 returns c =
     let table = text_of_table c.args.letter (sign_bytes c.args.grid.now.signs) (shown c.args.grid.now) in
     let line = ended_line (verdict_fields c.args.backs c.args.told c.args.onces) in
-    c.in-ok-add-verdict.ensures
-    ∙ ap (λ (x : List ℕ). x ++ line) (c.in-ok-add-table.ensures ∙ ap (λ (x : List ℕ). x ++ table) c.new-out.ensures.items)
+    c.in_ok-add_verdict.ensures
+    ∙ ap (λ (x : List ℕ). x ++ line) (c.in_ok-add_table.ensures ∙ ap (λ (x : List ℕ). x ++ table) c.new-out.ensures.items)

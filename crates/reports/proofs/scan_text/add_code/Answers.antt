@@ -9,11 +9,11 @@ text v = refl
 pub returns : goal.returns
 returns c =
     let out = vec_items c.args.out.now in
-    let named = vec_items c.extend-from-slice.new.self in
-    let valued = vec_items c.add-field.new.out in
-    let all = vec_items c.extend-from-slice-2.new.self in
-    let r = c.extend-from-slice-2.result in
+    let named = vec_items c.extend_from_slice.new.self in
+    let valued = vec_items c.add_field.new.out in
+    let all = vec_items c.extend_from_slice-2.new.self in
+    let r = c.extend_from_slice-2.result in
     adds_as out all _ _ r (text (decimal c.from.result) ∙ ap code_text c.from.ensures)
-    (adds_then out named all _ _ r c.in-ok-extend-from-slice.ensures.items
-    (adds_then named valued all _ _ r c.in-ok-add-field.ensures
-    (adds_by valued all (9 ∷ 45 ∷ []) r c.extend-from-slice-2.ensures.items)))
+    (adds_then out named all _ _ r c.in_ok-extend_from_slice.ensures.items
+    (adds_then named valued all _ _ r c.in_ok-add_field.ensures
+    (adds_by valued all (9 ∷ 45 ∷ []) r c.extend_from_slice-2.ensures.items)))

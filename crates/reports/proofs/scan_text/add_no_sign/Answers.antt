@@ -8,6 +8,6 @@ text k = ap (λ (x : List ℕ). 88 ∷ 9 ∷ 49 ∷ 50 ∷ 9 ∷ x) (sym (append
 pub returns : goal.returns
 returns c =
     let out = vec_items c.args.out.now in
-    let all = vec_items c.add-field.new.out in
-    adds_as out all _ _ c.add-field.result (text (decimal c.args.place))
-    (adds_then out (vec_items c.extend-from-slice.new.self) all _ _ c.add-field.result c.in-ok-extend-from-slice.ensures.items c.add-field.ensures)
+    let all = vec_items c.add_field.new.out in
+    adds_as out all _ _ c.add_field.result (text (decimal c.args.place))
+    (adds_then out (vec_items c.extend_from_slice.new.self) all _ _ c.add_field.result c.in_ok-extend_from_slice.ensures.items c.add_field.ensures)

@@ -7,13 +7,13 @@ use Rattle.reports.proofs.scan_text.add_scan.Goals as goal
 pub returns : goal.returns
 returns g c =
     let out = vec_items c.args.out.now in
-    let valued = vec_items c.add-value.new.out in
-    let parted = vec_items c.extend-from-slice.new.self in
-    let found = vec_items c.add-longest.new.out in
-    let all = vec_items c.extend-from-slice-2.new.self in
-    let r = c.extend-from-slice-2.result in
+    let valued = vec_items c.add_value.new.out in
+    let parted = vec_items c.extend_from_slice.new.self in
+    let found = vec_items c.add_longest.new.out in
+    let all = vec_items c.extend_from_slice-2.new.self in
+    let r = c.extend_from_slice-2.result in
     scan_adds g.K.Kind.model c.args.table.now.grid c.args.entry out all c.value.result c.value.ensures c.longest.result c.longest.ensures r
-    (adds_then out valued all (value_text c.value.result) _ r c.in-ok-add-value.ensures
-    (adds_then valued parted all (9 ∷ []) (longest_text c.longest.result ++ 10 ∷ []) r c.in-ok-extend-from-slice.ensures.items
-    (adds_then parted found all (longest_text c.longest.result) (10 ∷ []) r c.in-ok-add-longest.ensures
-    (adds_by found all (10 ∷ []) r c.extend-from-slice-2.ensures.items))))
+    (adds_then out valued all (value_text c.value.result) _ r c.in_ok-add_value.ensures
+    (adds_then valued parted all (9 ∷ []) (longest_text c.longest.result ++ 10 ∷ []) r c.in_ok-extend_from_slice.ensures.items
+    (adds_then parted found all (longest_text c.longest.result) (10 ∷ []) r c.in_ok-add_longest.ensures
+    (adds_by found all (10 ∷ []) r c.extend_from_slice-2.ensures.items))))

@@ -18,9 +18,9 @@ loop-letter-preserved c =
     let n = length (sign_bytes c.args.grid.now.signs) in
     let f = λ (a : ℕ). decimal (next n t c.args.state a) in
     let e : c.len-letter-end.result ≡ n = c.len-letter-end.ensures ∙ ap (λ (s : Signs). length (sign_bytes s)) c.signs.ensures in
-    let read = next-read n t c.args.state c.loop-letter.letter c.unwrap-or-next.result c.next.result c.requires (omega arith) c.next.ensures c.unwrap-or-next.ensures in
+    let read = next-read n t c.args.state c.loop-letter.letter c.unwrap_or-next.result c.next.result c.requires (omega arith) c.next.ensures c.unwrap_or-next.ensures in
     let before = vec_items c.args.out.now in
-    c.in-ok-add-field.ensures
+    c.in_ok-add_field.ensures
     ∙ (ap (λ (v : ℕ). vec_items c.loop-letter.out ++ (9 ∷ decimal v)) read
     ∙ (ap (λ (x : List ℕ). x ++ (9 ∷ f c.loop-letter.letter)) c.loop-letter.invariant
     ∙ (append_assoc before (behind 9 (tabulate c.loop-letter.letter f)) (9 ∷ f c.loop-letter.letter)

@@ -17,7 +17,7 @@ loop-state-preserved c =
     let i = c.loop-state.state in
     let f = λ (i : ℕ). line_of (row_fields (length (sign_bytes c.args.grid.now.signs)) (shown c.args.grid.now) i) in
     let before = vec_items c.args.out.now in
-    c.in-ok-add-row.ensures
+    c.in_ok-add_row.ensures
     ∙ (ap (λ (x : List ℕ). x ++ (f c.loop-state.state ++ 10 ∷ [])) c.loop-state.invariant
     ∙ (append_assoc before (ended 10 (tabulate c.loop-state.state f)) (f c.loop-state.state ++ 10 ∷ [])
     ∙ ap (λ (x : List ℕ). before ++ x) (sym (ended-more 10 c.loop-state.state f))))
@@ -25,6 +25,6 @@ loop-state-preserved c =
 pub returns : goal.returns
 returns c =
     let f = λ (i : ℕ). line_of (row_fields (length (sign_bytes c.args.grid.now.signs)) (shown c.args.grid.now) i) in
-    let e : c.state-count-state-end.result ≡ count (shown c.args.grid.now) = c.state-count-state-end.ensures in
+    let e : c.state_count-state-end.result ≡ count (shown c.args.grid.now) = c.state_count-state-end.ensures in
     let z : c.loop-state.state ≡ count (shown c.args.grid.now) = omega arith in
     c.loop-state.invariant ∙ ap (λ (k : ℕ). vec_items c.args.out.now ++ ended 10 (tabulate k f)) z

@@ -17,6 +17,6 @@ returns c =
     let head = head_fields c.args.letter signs t in
     let rows = ended 10 (tabulate (count t) (λ i. line_of (row_fields (length signs) t i))) in
     let out = vec_items c.args.out.now in
-    let all = vec_items c.add-rows.new.out in
-    adds_as out all _ _ c.add-rows.result (append_assoc (line_of head) (10 ∷ []) rows)
-    (adds_then out (vec_items c.add-head.new.out) all (ended_line head) rows c.add-rows.result c.in-ok-add-head.ensures c.add-rows.ensures)
+    let all = vec_items c.add_rows.new.out in
+    adds_as out all _ _ c.add_rows.result (append_assoc (line_of head) (10 ∷ []) rows)
+    (adds_then out (vec_items c.add_head.new.out) all (ended_line head) rows c.add_rows.result c.in_ok-add_head.ensures c.add_rows.ensures)

@@ -33,18 +33,18 @@ faulty l r x e h = subst (HeadRead l) e h
 named : (l : List ℕ) (r : Result (KindLetter × Signs) LineFault) (k : KindLetter) (signs : Signs) → r ≡ Ok (k, signs) → HeadRead l r → head_of_line l ≡ Ok (k, sign_bytes signs)
 named l r k signs e h = subst (HeadRead l) e h
 
-pub returns-in-err-kind : goal.returns-in-err-kind
-returns-in-err-kind c =
+pub returns-in_err-kind : goal.returns-in_err-kind
+returns-in_err-kind c =
     let p = err_from_is_err_and c.from-residual.result c.from-residual.ensures.1 in
     let text = c.args.text.now in
     let l = c.in-Some.line.now in
     let ls = lines_in c.in-Some.rest.now in
-    let x = c.in-err-kind.field-0.0 in
+    let x = c.in_err-kind.field-0.0 in
     let ended : line_ended c.args.text.now ≡ true = sym c.if-not-is-ended.ensures in
-    let q = placed-fault 1 c.read-head.result x c.in-err-kind.ensures in
+    let q = placed-fault 1 c.read-head.result x c.in_err-kind.ensures in
     let f = left_cut c.in-Some.ensures.cuts (inr ended) in
     rw (p.1, p.2) (opened text l ls c.if-text-gt-LIMIT.false ended f.lines
-    ∙ (all_head-fault l ls x.1 (faulty l c.read-head.result x.1 q.1 c.read-head.ensures) ∙ ap (λ (n : ℕ). Err (Line n c.in-err-kind.field-0.0.1)) (sym q.0)))
+    ∙ (all_head-fault l ls x.1 (faulty l c.read-head.result x.1 q.1 c.read-head.ensures) ∙ ap (λ (n : ℕ). Err (Line n c.in_err-kind.field-0.0.1)) (sym q.0)))
 
 pub read-rest-requires : goal.read-rest-requires
 read-rest-requires c = (left_cut c.in-Some.ensures.cuts (inr (sym c.if-not-is-ended.ensures))).rest
@@ -54,11 +54,11 @@ returns c =
     let text = c.args.text.now in
     let l = c.in-Some.line.now in
     let ls = lines_in c.in-Some.rest.now in
-    let k = c.in-ok-kind.kind in
-    let signs = c.in-ok-kind.signs in
+    let k = c.in_ok-kind.kind in
+    let signs = c.in_ok-kind.signs in
     let ended : line_ended c.args.text.now ≡ true = sym c.if-not-is-ended.ensures in
     let f = left_cut c.in-Some.ensures.cuts (inr ended) in
-    let q = placed-value 1 c.read-head.result (k, signs) c.in-ok-kind.ensures in
+    let q = placed-value 1 c.read-head.result (k, signs) c.in_ok-kind.ensures in
     given text c.in-Some.rest.now k (sign_bytes signs) c.read-rest.result
     (opened text l ls c.if-text-gt-LIMIT.false ended f.lines ∙ all_head l ls k (sign_bytes signs) (named l c.read-head.result k signs q c.read-head.ensures))
     c.read-rest.ensures

@@ -10,19 +10,19 @@ use Rattle.texts.proofs.Outcomes.{placed-fault, placed-value}
 use Rattle.texts.proofs.Turns.{left_cut, turn_fault, turn_done}
 use Rattle.texts.proofs.reading.read_lines.Goals as goal
 
-pub returns-in-err-at : goal.returns-in-err-at
-returns-in-err-at g c =
+pub returns-in_err-at : goal.returns-in_err-at
+returns-in_err-at g c =
     let p = err_from_is_err_and c.from-residual.result c.from-residual.ensures.1 in
     let K = g.K.Kind.model in
     let d = drawn c.loop-line.draft in
     let l = c.in-Some.line.now in
     let n = c.loop-line.number + 1 in
-    let x = c.in-err-at.field-0.0 in
-    let q = placed-fault (c.loop-line.number + 1) c.read-line.result c.in-err-at.field-0.0 c.in-err-at.ensures in
+    let x = c.in_err-at.field-0.0 in
+    let q = placed-fault (c.loop-line.number + 1) c.read-line.result c.in_err-at.field-0.0 c.in_err-at.ensures in
     let r = subst (λ (r : Result (Unit {0}) LineFault). LineRead g.K.Kind.model (drawn c.loop-line.draft) c.in-Some.line.now (drawn c.read-line.new.draft) r) q.1 c.read-line.ensures in
     let f = left_cut c.in-Some.ensures.cuts c.loop-line.invariant.0 in
     rw (p.1, p.2) (turn_fault K n d c.loop-line.rest.now l (lines_in c.in-Some.more.now) x.1 _ f.lines r c.loop-line.invariant.2
-    ∙ ap (λ (m : ℕ). Err (Line m c.in-err-at.field-0.0.1)) (sym q.0))
+    ∙ ap (λ (m : ℕ). Err (Line m c.in_err-at.field-0.0.1)) (sym q.0))
 
 pub loop-line-smaller : goal.loop-line-smaller
 loop-line-smaller g c = omega (arith, cut_length c.in-Some.ensures.cuts)
@@ -33,7 +33,7 @@ loop-line-preserved g c =
     let d = drawn c.loop-line.draft in
     let l = c.in-Some.line.now in
     let n = c.loop-line.number + 1 in
-    let q = placed-value (c.loop-line.number + 1) c.read-line.result c.in-ok-at.field-0 c.in-ok-at.ensures in
+    let q = placed-value (c.loop-line.number + 1) c.read-line.result c.in_ok-at.field-0 c.in_ok-at.ensures in
     let r = subst (λ (r : Result (Unit {0}) LineFault). LineRead g.K.Kind.model (drawn c.loop-line.draft) c.in-Some.line.now (drawn c.read-line.new.draft) r) q c.read-line.ensures in
     let f = left_cut c.in-Some.ensures.cuts c.loop-line.invariant.0 in (
       f.rest,

@@ -15,10 +15,10 @@ loop-p-init g c =
 pub loop-p-preserved : goal.loop-p-preserved
 loop-p-preserved g c =
     let K = g.row.K-Kind.model in
-    colour_next K c.loop-p.p (ends_joined K (shown c.args.automaton.now) c.args.before.now c.args.letter) c.join-ends.result c.put-after.result c.loop-p.after c.loop-p.invariant c.join-ends.ensures c.put-after.ensures
+    colour_next K c.loop-p.p (ends_joined K (shown c.args.automaton.now) c.args.before.now c.args.letter) c.join_ends.result c.put-after.result c.loop-p.after c.loop-p.invariant c.join_ends.ensures c.put-after.ensures
 
 pub returns : goal.returns
 returns g c =
     let K = g.row.K-Kind.model in
-    let n = c.state-count-count.result in
-    at_end (λ m. coloured K m (ends_joined K (shown c.args.automaton.now) c.args.before.now c.args.letter)) c.loop-p.after c.loop-p.p n (size (shown c.args.automaton.now)) c.loop-p.invariant c.loop-p.auto.p-end c.loop-p-test.false c.state-count-count.ensures
+    let n = c.state_count-count.result in
+    at_end (λ m. coloured K m (ends_joined K (shown c.args.automaton.now) c.args.before.now c.args.letter)) c.loop-p.after c.loop-p.p n (size (shown c.args.automaton.now)) c.loop-p.invariant c.loop-p.auto.p-end c.loop-p-test.false c.state_count-count.ensures

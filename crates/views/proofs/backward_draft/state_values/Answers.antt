@@ -15,10 +15,10 @@ loop-p-init g c =
 pub loop-p-preserved : goal.loop-p-preserved
 loop-p-preserved g c =
     let K = g.row.K-Kind.model in
-    colour_next K c.loop-p.p (code_of_state K (shown c.args.automaton.now)) c.code-at.result c.put-colouring.result c.loop-p.colouring c.loop-p.invariant c.code-at.ensures c.put-colouring.ensures
+    colour_next K c.loop-p.p (code_of_state K (shown c.args.automaton.now)) c.code_at.result c.put-colouring.result c.loop-p.colouring c.loop-p.invariant c.code_at.ensures c.put-colouring.ensures
 
 pub returns : goal.returns
 returns g c =
     let K = g.row.K-Kind.model in
-    let n = c.state-count-count.result in
-    at_end (λ m. coloured K m (code_of_state K (shown c.args.automaton.now))) c.loop-p.colouring c.loop-p.p n (size (shown c.args.automaton.now)) c.loop-p.invariant c.loop-p.auto.p-end c.loop-p-test.false c.state-count-count.ensures
+    let n = c.state_count-count.result in
+    at_end (λ m. coloured K m (code_of_state K (shown c.args.automaton.now))) c.loop-p.colouring c.loop-p.p n (size (shown c.args.automaton.now)) c.loop-p.invariant c.loop-p.auto.p-end c.loop-p-test.false c.state_count-count.ensures

@@ -16,10 +16,10 @@ loop-p-init g c =
 pub loop-p-preserved : goal.loop-p-preserved
 loop-p-preserved g c =
     let K = g.row.K-Kind.model in
-    colour_next K c.loop-p.p (next_code K (length (sign_bytes c.args.grid.now.signs)) (shown c.args.grid.now) c.args.before.now c.args.letter) c.code.result c.put-after.result c.loop-p.after c.loop-p.invariant (read_at c.args.before.now.codes g.row.K-Kind.model.none c.code.result c.next-state.result (table_step (length (sign_bytes c.args.grid.now.signs)) (shown c.args.grid.now) c.loop-p.p c.args.letter) c.code.ensures c.next-state.ensures) c.put-after.ensures
+    colour_next K c.loop-p.p (next_code K (length (sign_bytes c.args.grid.now.signs)) (shown c.args.grid.now) c.args.before.now c.args.letter) c.code.result c.put-after.result c.loop-p.after c.loop-p.invariant (read_at c.args.before.now.codes g.row.K-Kind.model.none c.code.result c.next_state.result (table_step (length (sign_bytes c.args.grid.now.signs)) (shown c.args.grid.now) c.loop-p.p c.args.letter) c.code.ensures c.next_state.ensures) c.put-after.ensures
 
 pub returns : goal.returns
 returns g c =
     let K = g.row.K-Kind.model in
-    let n = c.state-count-states.result in
-    at_end (λ m. coloured K m (next_code K (length (sign_bytes c.args.grid.now.signs)) (shown c.args.grid.now) c.args.before.now c.args.letter)) c.loop-p.after c.loop-p.p n (count (shown c.args.grid.now)) c.loop-p.invariant c.loop-p.auto.p-end c.loop-p-test.false c.state-count-states.ensures
+    let n = c.state_count-states.result in
+    at_end (λ m. coloured K m (next_code K (length (sign_bytes c.args.grid.now.signs)) (shown c.args.grid.now) c.args.before.now c.args.letter)) c.loop-p.after c.loop-p.p n (count (shown c.args.grid.now)) c.loop-p.invariant c.loop-p.auto.p-end c.loop-p-test.false c.state_count-states.ensures

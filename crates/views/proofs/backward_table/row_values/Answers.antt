@@ -15,10 +15,10 @@ loop-p-init g c =
 pub loop-p-preserved : goal.loop-p-preserved
 loop-p-preserved g c =
     let K = g.row.K-Kind.model in
-    colour_next K c.loop-p.p (value_of_state K (shown c.args.grid.now)) c.value-at.result c.put-colouring.result c.loop-p.colouring c.loop-p.invariant c.value-at.ensures c.put-colouring.ensures
+    colour_next K c.loop-p.p (value_of_state K (shown c.args.grid.now)) c.value_at.result c.put-colouring.result c.loop-p.colouring c.loop-p.invariant c.value_at.ensures c.put-colouring.ensures
 
 pub returns : goal.returns
 returns g c =
     let K = g.row.K-Kind.model in
-    let n = c.state-count-states.result in
-    at_end (λ m. coloured K m (value_of_state K (shown c.args.grid.now))) c.loop-p.colouring c.loop-p.p n (count (shown c.args.grid.now)) c.loop-p.invariant c.loop-p.auto.p-end c.loop-p-test.false c.state-count-states.ensures
+    let n = c.state_count-states.result in
+    at_end (λ m. coloured K m (value_of_state K (shown c.args.grid.now))) c.loop-p.colouring c.loop-p.p n (count (shown c.args.grid.now)) c.loop-p.invariant c.loop-p.auto.p-end c.loop-p-test.false c.state_count-states.ensures

@@ -11,10 +11,10 @@ loop-p-init c = c.empty-set.ensures ∙ those-none (shown c.args.automaton.now).
 
 pub loop-p-preserved : goal.loop-p-preserved
 loop-p-preserved c =
-    put_next c.loop-p.p (shown c.args.automaton.now).entry c.is-entry.result c.put-set.result c.loop-p.set c.loop-p.invariant c.is-entry.ensures
+    put_next c.loop-p.p (shown c.args.automaton.now).entry c.is_entry.result c.put-set.result c.loop-p.set c.loop-p.invariant c.is_entry.ensures
     c.put-set.ensures.own_val c.put-set.ensures.past
 
 pub returns : goal.returns
 returns c =
     let d = shown c.args.automaton.now in
-    at_end (λ n. those n d.entry) c.loop-p.set c.loop-p.p c.state-count-count.result (size d) c.loop-p.invariant c.loop-p.auto.p-end c.loop-p-test.false c.state-count-count.ensures
+    at_end (λ n. those n d.entry) c.loop-p.set c.loop-p.p c.state_count-count.result (size d) c.loop-p.invariant c.loop-p.auto.p-end c.loop-p-test.false c.state_count-count.ensures

@@ -1,4 +1,4 @@
-use Rattle.std.proofs.Common.{◌≡◌, ℕ, Some, None, sym, ap, ◌∙◌}
+use Rattle.std.proofs.Common.{Some, None, sym, ap, ◌∙◌}
 use Rattle.std.proofs.lemmas.Bool.{cond-true}
 use Rattle.automata.proofs.ShownLaws.{is_state_lem, shown-code}
 use Rattle.automata.proofs.automaton.Automaton.code.Goals as goal

@@ -1,14 +1,14 @@
-use Rattle.std.proofs.Common.{◌≡◌, ◌*◌, ◌%◌, ◌^◌, ◌<◌, Bool, cond, eqb, sym, ap, ◌∙◌, arith}
+use Rattle.std.proofs.Common.{◌*◌, ◌%◌, ◌^◌, ◌<◌, Bool, cond, eqb, sym, ap, ◌∙◌, arith}
 use lib.Bits.{or_lt}
 use Rattle.automata.specs.Sets.{has}
 use Rattle.automata.proofs.Bits.{shifted}
 use Rattle.automata.proofs.SetLaws.{put_in, put_out}
 use Rattle.automata.proofs.sets.StateSet.put.Goals as goal
 
-pub invariant-of-result : goal.invariant-of-result
-invariant-of-result c =
+pub invariant_of-result : goal.invariant_of-result
+invariant_of-result c =
     let l : (1 * 2 ^ c.args.state) % 4294967296 < 2 ^ 32 = omega arith in
-    (or_lt 32 c.args.self.bits ((1 * 2 ^ c.args.state) % 4294967296) c.args.self.small l, tt)
+    record { small = or_lt 32 c.args.self.bits ((1 * 2 ^ c.args.state) % 4294967296) c.args.self.small l }
 
 pub returns-then-member : goal.returns-then-member
 returns-then-member c =

@@ -1,30 +1,22 @@
-use Rattle.std.proofs.Common.{◌≡◌, ℕ, ◌≤◌, List, length, take, sym, ap, ◌∙◌, subst}
-use Rattle.std.proofs.lemmas.Result.{err_from_is_err_and}
+use Rattle.std.proofs.Common.{ℕ, List, length, take, sym, ap, ◌∙◌, subst}
 use Rattle.automata.specs.Signs.{Visible, Apart, BlankPast}
-use Rattle.automata.proofs.SignLaws.{decides_counted, accepted-parts, visible_from, apart_from, padded, padded-length, padded-visible, padded-apart, padded-blank, padded-front}
+use Rattle.automata.proofs.SignLaws.{decides_counted, accepted-parts, visible_from, apart_from, padded-length, padded-visible, padded-apart, padded-blank, padded-front}
 use Rattle.automata.proofs.signs.Signs.new.Goals as goal
 
-pub invariant-of-result : goal.invariant-of-result
-invariant-of-result c =
+pub invariant_of-result : goal.invariant_of-result
+invariant_of-result c =
     let xs = c.args.signs.now in
-    let e = c.in-places.ensures in
-    let a = accepted-parts xs c.in-ok-check-signs.ensures in
-    let n = (decides_counted xs).0 a.0 in (
-      ap length e ∙ padded-length xs n.1,
-      (
-        n.0,
-        (
-          n.1,
-          (
-            subst (λ (bs : List ℕ). Visible bs (length xs)) (sym e) (padded-visible xs (visible_from xs a.1)),
-            (
-              subst (λ (bs : List ℕ). Apart bs (length xs)) (sym e) (padded-apart xs (apart_from xs a.1)),
-              (subst (λ (bs : List ℕ). BlankPast bs (length xs)) (sym e) (padded-blank xs), tt),
-            ),
-          ),
-        ),
-      ),
-    )
+    let e = c.in_places.ensures in
+    let a = accepted-parts xs c.in_ok-check_signs.ensures in
+    let n = (decides_counted xs).0 a.0 in
+    record {
+      wide = ap length e ∙ padded-length xs n.1;
+      some = n.0;
+      few = n.1;
+      visible = subst (λ (bs : List ℕ). Visible bs (length xs)) (sym e) (padded-visible xs (visible_from xs a.1));
+      apart = subst (λ (bs : List ℕ). Apart bs (length xs)) (sym e) (padded-apart xs (apart_from xs a.1));
+      blank = subst (λ (bs : List ℕ). BlankPast bs (length xs)) (sym e) (padded-blank xs);
+    }
 
 pub returns : goal.returns
 returns c =

@@ -1,6 +1,6 @@
-use Rattle.std.proofs.Common.{◌≡◌, ℕ, ◌-◌, ◌<◌, ◌≤◌, length, get_or, take, sym, refl, ◌∙◌, arith, length-take, below_more}
+use Rattle.std.proofs.Common.{◌-◌, ◌<◌, length, take, sym, ◌∙◌, arith, length-take, below_more, eq-eqb}
 use Rattle.std.proofs.lemmas.List.{get_or-take}
-use Rattle.std.proofs.lemmas.Bool.{both_ways}
+use Rattle.std.proofs.lemmas.Bool.{both_ways, eqb-true}
 use Rattle.automata.proofs.SignLaws.{fault-none, fault_byte}
 use Rattle.automata.proofs.signs.making.check_signs.Goals as goal
 use Rattle.automata.proofs.signs.making.check_signs.Goals.{then-sign-lt33-via-then-sign-lt33, then-sign-lt33-via-else-sign-lt33+then-sign-gt126}
@@ -21,7 +21,7 @@ returns-then-contains c =
     let l : h.0 < c.loop-i.i - 0 = omega (arith, simp length-take at h.1) in
     let e = get_or-take (c.loop-i.i - 0) c.args.signs.now h.0 0 l in
     fault_byte c.args.signs.now i.0 i.1 c.loop-i.i c.loop-i-test.true
-    (λ g. g.1 h.0 (omega arith) (sym e ∙ (h.2 0).0 refl))
+    (λ g. g.1 h.0 (omega arith) (sym e ∙ eqb-true _ _ (h.2 0)))
 
 pub loop-i-preserved : goal.loop-i-preserved
 loop-i-preserved c =
@@ -33,7 +33,7 @@ loop-i-preserved c =
           (λ j l e.
           let lt : j < length (take (c.loop-i.i - 0) c.args.signs.now) = simp length-take (omega (arith, c.loop-i-test.true)) in
           let t = get_or-take (c.loop-i.i - 0) c.args.signs.now j 0 (omega arith) in
-          both_ways _ refl ((c.if-contains.ensures.cases j 0 (omega arith) lt).1 (t ∙ e))),
+          both_ways _ (c.if-contains.ensures.cases j 0 (omega arith) lt) (eq-eqb _ _ (t ∙ e))),
     )
 
 pub returns : goal.returns

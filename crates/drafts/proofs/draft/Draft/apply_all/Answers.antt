@@ -32,17 +32,17 @@ ended K d calls i l xs all inv =
     sym (append-nil xs) ∙ (ap (λ (ys : List (Result Answer CallFault)). xs ++ ys) (sym (at_drop_all (outcomes K d) calls i l)) ∙ inv)
 
 pub loop-call-init : goal.loop-call-init
-loop-call-init g c = let m = c.in-ok-answers.ensures in (m.len, m.capacity, started _ _ m.items, refl)
+loop-call-init g c = let m = c.in_ok-answers.ensures in (m.len, m.capacity, started _ _ m.items, refl)
 
-pub returns-in-err-push : goal.returns-in-err-push
-returns-in-err-push g c =
+pub returns-in_err-push : goal.returns-in_err-push
+returns-in_err-push g c =
     let i = c.loop-call.invariant in
-    absurd (omega (arith, i.0, i.1, c.in-err-push.ensures.full, c.loop-call-test.true))
+    absurd (omega (arith, i.0, i.1, c.in_err-push.ensures.full, c.loop-call-test.true))
 
 pub loop-call-preserved : goal.loop-call-preserved
 loop-call-preserved g c =
     let i = c.loop-call.invariant in
-    let p = c.in-ok-push.ensures in
+    let p = c.in_ok-push.ensures in
     let a = c.apply-answer.ensures in (
       omega (arith, i.0, p.len),
       omega (arith, i.1, p.capacity),

@@ -1,6 +1,5 @@
-use Rattle.std.proofs.Common.{◌≡◌, ℕ, ◌<◌, ◌≤◌, length, replicate, sym, refl, ap, ◌∙◌, subst, arith}
+use Rattle.std.proofs.Common.{◌≡◌, ℕ, length, replicate, sym, refl, ap, ◌∙◌, subst, arith}
 use lib.ListN.{length-replicate}
-use Rattle.automata.specs.declared.signs.Signs.{Signs}
 use Rattle.tables.specs.declared.grid.Grid.{Grid}
 use Rattle.tables.specs.Builds.{Accepted}
 use Rattle.tables.proofs.Filled.{filled-some, filled-inside, filled-below, letters_are, accepted, refused}
@@ -8,58 +7,43 @@ use Rattle.tables.proofs.grid.building.build.Goals as goal
 
 pub walk-requires : goal.walk-requires
 walk-requires g c =
-    let d = g.State.State.blank in
-    let l : length c.clear.new.self.entries.now ≡ length c.args.roll.now.entries.now = ap length c.clear.ensures.items ∙ length-replicate _ g.State.State.blank in
+    let d = g.M.State.State.blank in
+    let l : length c.clear.new.self.entries.now ≡ length c.args.roll.now.entries.now = ap length c.clear.ensures.items ∙ length-replicate _ g.M.State.State.blank in
     record {
       letters = c.len.ensures ∙ ap length c.signs-signs.ensures.signs;
-      blank-values = refl;
-      blank-next = refl;
-      blank-roll = c.clear.ensures.items ∙ ap (λ (n : ℕ). replicate n g.State.State.blank) (sym l);
+      blank_values = refl;
+      blank_next = refl;
+      blank_roll = c.clear.ensures.items ∙ ap (λ (n : ℕ). replicate n g.M.State.State.blank) (sym l);
       unlisted = c.clear.ensures.len;
     }
 
-pub invariant-of-grid : goal.invariant-of-grid
-invariant-of-grid g c =
+pub invariant_of-grid : goal.invariant_of-grid
+invariant_of-grid g c =
     let m = g.M.Machine.meaning c.args.machine.now in
     let q = c.in-Ok.ensures.ended in
-    let k = letters_are (g.M.Machine.meaning c.args.machine.now) c.signs-signs.result c.signs-signs.ensures.signs in (
-      filled-some m _ _ _ _ _ _ q.1 q.0,
-      (
-        omega (arith, q.0, q.1.few),
-        (
-          q.1.wide,
-          (
-            q.1.bytes,
-            (
-              q.1.tall,
-              (
-                q.1.columns,
-                (
-                  q.1.unvalued,
-                  (
-                    (λ i a li la. filled-inside m _ _ _ _ _ _ q.1 q.0 i a li (omega (arith, k))),
-                    (
-                      filled-below m _ _ _ _ _ _ q.1 q.0,
-                      ((λ i a l. q.1.beside i a (omega (arith, k))), tt),
-                    ),
-                  ),
-                ),
-              ),
-            ),
-          ),
-        ),
-      ),
-    )
+    let k = letters_are (g.M.Machine.meaning c.args.machine.now) c.signs-signs.result c.signs-signs.ensures.signs in
+    record {
+      some = filled-some m _ _ _ _ _ _ q.1 q.0;
+      few = omega (arith, q.0, q.1.few);
+      wide = q.1.wide;
+      bytes = q.1.bytes;
+      rows = q.1.tall;
+      columns = q.1.columns;
+      blank = q.1.unvalued;
+      inside = λ i a li la. filled-inside m _ _ _ _ _ _ q.1 q.0 i a li (omega (arith, k));
+      below = filled-below m _ _ _ _ _ _ q.1 q.0;
+      beside = λ i a l. q.1.beside i a (omega (arith, k));
+    }
 
 pub returns-in-Ok : goal.returns-in-Ok
 returns-in-Ok g c =
     let m = g.M.Machine.meaning c.args.machine.now in
     let q = c.in-Ok.ensures in
-    let l : length c.clear.new.self.entries.now ≡ length c.args.roll.now.entries.now = ap length c.clear.ensures.items ∙ length-replicate _ g.State.State.blank in
+    let l : length c.clear.new.self.entries.now ≡ length c.args.roll.now.entries.now = ap length c.clear.ensures.items ∙ length-replicate _ g.M.State.State.blank in
     record {
       loan = q.loan ∙ c.clear.ensures.loan;
       long = q.long ∙ l;
-      ended = subst (λ (t : Grid). Accepted (g.M.Machine.meaning c.args.machine.now) g.State.State.blank t c.walk.new.roll.entries.now c.walk.new.roll.len) (sym c.of.ensures)
+      ended = subst (λ (t : Grid). Accepted (g.M.Machine.meaning c.args.machine.now) g.M.State.State.blank t c.walk.new.roll.entries.now c.walk.new.roll.len) (sym c.of.ensures)
           (accepted m _ _ _ c.in-Ok.count _ c.signs-signs.result refl c.signs-signs.ensures.signs refl q.ended.0 q.ended.1);
     }
 
@@ -67,10 +51,10 @@ pub returns-in-Err : goal.returns-in-Err
 returns-in-Err g c =
     let m = g.M.Machine.meaning c.args.machine.now in
     let q = c.in-Err.ensures in
-    let l : length c.clear.new.self.entries.now ≡ length c.args.roll.now.entries.now = ap length c.clear.ensures.items ∙ length-replicate _ g.State.State.blank in
+    let l : length c.clear.new.self.entries.now ≡ length c.args.roll.now.entries.now = ap length c.clear.ensures.items ∙ length-replicate _ g.M.State.State.blank in
     record {
       loan = c.wipe.ensures.loan ∙ (q.loan ∙ c.clear.ensures.loan);
       long = c.wipe.ensures.long ∙ (q.long ∙ l);
-      ended = refused m g.Kind.Kind.model _ c.walk.new.roll.entries.now _ _ _ c.signs-signs.result c.signs-signs.ensures.signs c.signs-signs.ensures.kind
+      ended = refused m g.M.Kind.Kind.model _ c.walk.new.roll.entries.now _ _ _ c.signs-signs.result c.signs-signs.ensures.signs c.signs-signs.ensures.kind
           q.ended c.wipe.ensures.long c.wipe.ensures.wiped;
     }

@@ -1,4 +1,4 @@
-use Rattle.std.proofs.Common.{◌≡◌, ℕ, ◌+◌, ◌<◌, ◌≤◌, length, get_or, set, Ok, Err, sym, refl, ap, ◌∙◌, subst, arith}
+use Rattle.std.proofs.Common.{◌≡◌, ◌<◌, length, Ok, refl, ap, ◌∙◌, arith}
 use Rattle.std.proofs.lemmas.Result.{err_from_is_err_and}
 use Rattle.machines.specs.Models.{alphabet}
 use Rattle.rolls.proofs.RollLaws.{placed-long, placed-more}
@@ -11,43 +11,43 @@ loop-letter-init g c = (
   refl,
   refl,
   c.requires.listed,
-  filling_value _ _ _ _ _ _ _ _ _ c.requires.filling c.value-of.result c.requires.listed (omega (arith, c.value-of.type-inv)) c.value-of.ensures,
+  filling_value _ _ _ _ _ _ _ _ _ c.requires.filling c.value_of.result c.requires.listed (omega (arith, c.value_of.type_inv)) c.value_of.ensures,
 )
 
-pub returns-in-err-number : goal.returns-in-err-number
-returns-in-err-number g c =
-    let p = err_from_is_err_and c.from-residual.result c.from-residual.ensures.1 in
+pub returns-in_err-number : goal.returns-in_err-number
+returns-in_err-number g c =
+    let p = err_from_is_err_and c.from_residual.result c.from_residual.ensures.1 in
     let i = c.loop-letter.invariant in
-    let q = c.in-err-number.ensures in
+    let q = c.in_err-number.ensures in
     let la : c.loop-letter.letter < alphabet (g.M.Machine.meaning c.args.machine.now) = omega (arith, c.requires.letters, c.loop-letter-test.true) in
     record {
       loan = q.loan ∙ i.0;
       long = ap length q.placed.kept ∙ i.1;
-      ended = rw p.1 (placed-full _ _ _ _ _ _ _ _ _ i.3 i.2 la _ c.step-of-state.ensures _ _ q.placed);
+      ended = rw p.1 (placed-full _ _ _ _ _ _ _ _ _ i.3 i.2 la _ c.step_of-state.ensures _ _ q.placed);
       listed = omega (arith, i.2, q.placed.long);
     }
 
 pub returns-then-number-ge128 : goal.returns-then-number-ge128
 returns-then-number-ge128 g c =
     let i = c.loop-letter.invariant in
-    let q = c.in-ok-number.ensures in
+    let q = c.in_ok-number.ensures in
     let la : c.loop-letter.letter < alphabet (g.M.Machine.meaning c.args.machine.now) = omega (arith, c.requires.letters, c.loop-letter-test.true) in
     record {
       loan = q.loan ∙ i.0;
-      long = placed-long {E = BuildFault} _ _ _ _ _ _ (Ok c.in-ok-number.number) q.placed ∙ i.1;
-      ended = placed_past _ _ _ _ _ _ _ _ _ i.3 i.2 la _ c.step-of-state.ensures _ _ c.in-ok-number.number q.placed c.if-number-ge128.true;
-      listed = omega (arith, i.2, (placed-more {E = BuildFault} _ _ _ _ _ _ (Ok c.in-ok-number.number) q.placed).0);
+      long = placed-long {E = BuildFault} _ _ _ _ _ _ (Ok c.in_ok-number.number) q.placed ∙ i.1;
+      ended = placed_past _ _ _ _ _ _ _ _ _ i.3 i.2 la _ c.step_of-state.ensures _ _ c.in_ok-number.number q.placed c.if-number-ge128.true;
+      listed = omega (arith, i.2, (placed-more {E = BuildFault} _ _ _ _ _ _ (Ok c.in_ok-number.number) q.placed).0);
     }
 
 pub loop-letter-preserved : goal.loop-letter-preserved
 loop-letter-preserved g c =
     let i = c.loop-letter.invariant in
-    let q = c.in-ok-number.ensures in
+    let q = c.in_ok-number.ensures in
     let la : c.loop-letter.letter < alphabet (g.M.Machine.meaning c.args.machine.now) = omega (arith, c.requires.letters, c.loop-letter-test.true) in (
       q.loan ∙ i.0,
-      placed-long {E = BuildFault} _ _ _ _ _ _ (Ok c.in-ok-number.number) q.placed ∙ i.1,
-      omega (arith, i.2, (placed-more {E = BuildFault} _ _ _ _ _ _ (Ok c.in-ok-number.number) q.placed).0),
-      placed_filling _ _ _ _ _ _ _ _ _ i.3 i.2 la _ c.step-of-state.ensures _ _ c.in-ok-number.number q.placed c.if-number-ge128.false,
+      placed-long {E = BuildFault} _ _ _ _ _ _ (Ok c.in_ok-number.number) q.placed ∙ i.1,
+      omega (arith, i.2, (placed-more {E = BuildFault} _ _ _ _ _ _ (Ok c.in_ok-number.number) q.placed).0),
+      placed_filling _ _ _ _ _ _ _ _ _ i.3 i.2 la _ c.step_of-state.ensures _ _ c.in_ok-number.number q.placed c.if-number-ge128.false,
     )
 
 pub returns : goal.returns

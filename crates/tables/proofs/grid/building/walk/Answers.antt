@@ -1,41 +1,41 @@
-use Rattle.std.proofs.Common.{◌≡◌, ℕ, ◌+◌, ◌<◌, ◌≤◌, length, Ok, Err, sym, refl, ap, ◌∙◌, arith}
+use Rattle.std.proofs.Common.{length, Ok, refl, ap, ◌∙◌, arith}
 use Rattle.std.proofs.lemmas.Result.{err_from_is_err_and}
 use Rattle.rolls.proofs.RollLaws.{placed-long}
 use Rattle.tables.specs.declared.grid.building.BuildFault.{BuildFault}
 use Rattle.tables.proofs.Fillings.{first_filling, first-full}
 use Rattle.tables.proofs.grid.building.walk.Goals as goal
 
-pub returns-in-err-place : goal.returns-in-err-place
-returns-in-err-place g c =
-    let p = err_from_is_err_and c.from-residual.result c.from-residual.ensures.1 in
-    let q = c.in-err-place.ensures in
+pub returns-in_err-place : goal.returns-in_err-place
+returns-in_err-place g c =
+    let p = err_from_is_err_and c.from_residual.result c.from_residual.ensures.1 in
+    let q = c.in_err-place.ensures in
     record {
       loan = q.loan;
       long = ap length q.placed.kept;
-      ended = rw p.1 (first-full _ _ _ _ _ _ _ c.start.ensures c.requires.unlisted c.requires.blank-roll q.placed);
+      ended = rw p.1 (first-full _ _ _ _ _ _ _ c.start.ensures c.requires.unlisted c.requires.blank_roll q.placed);
     }
 
 pub loop-i-init : goal.loop-i-init
 loop-i-init g c =
-    let q = c.in-ok-place.ensures in (
+    let q = c.in_ok-place.ensures in (
       refl,
       refl,
       omega arith,
-      first_filling _ _ _ _ _ _ _ c.start.ensures c.requires.unlisted c.requires.blank-roll c.in-ok-place.field-0 q.placed _ c.requires.blank-values _ c.requires.blank-next,
+      first_filling _ _ _ _ _ _ _ c.start.ensures c.requires.unlisted c.requires.blank_roll c.in_ok-place.field-0 q.placed _ c.requires.blank_values _ c.requires.blank_next,
     )
 
-pub fill-row-requires : goal.fill-row-requires
-fill-row-requires g c = record { letters = c.requires.letters; listed = omega (arith, c.loop-i-test.true, c.len.ensures); filling = c.loop-i.invariant.3 }
+pub fill_row-requires : goal.fill_row-requires
+fill_row-requires g c = record { letters = c.requires.letters; listed = omega (arith, c.loop-i-test.true, c.len.ensures); filling = c.loop-i.invariant.3 }
 
-pub returns-in-err-fill-row : goal.returns-in-err-fill-row
-returns-in-err-fill-row g c =
-    let p = err_from_is_err_and c.from-residual-in-err-fill-row.result c.from-residual-in-err-fill-row.ensures.1 in
-    let q = c.in-err-fill-row.ensures in
-    let r = c.in-ok-place.ensures in
+pub returns-in_err-fill_row : goal.returns-in_err-fill_row
+returns-in_err-fill_row g c =
+    let p = err_from_is_err_and c.from_residual-in_err-fill_row.result c.from_residual-in_err-fill_row.ensures.1 in
+    let q = c.in_err-fill_row.ensures in
+    let r = c.in_ok-place.ensures in
     let i = c.loop-i.invariant in
     record {
       loan = q.loan ∙ (i.0 ∙ r.loan);
-      long = q.long ∙ (i.1 ∙ placed-long {E = BuildFault} _ _ _ _ _ _ (Ok c.in-ok-place.field-0) r.placed);
+      long = q.long ∙ (i.1 ∙ placed-long {E = BuildFault} _ _ _ _ _ _ (Ok c.in_ok-place.field-0) r.placed);
       ended = rw p.1 q.ended;
     }
 
@@ -44,16 +44,16 @@ loop-i-smaller g c = omega (arith, c.loop-i.invariant.3.few, c.loop-i-test.true,
 
 pub loop-i-preserved : goal.loop-i-preserved
 loop-i-preserved g c =
-    let q = c.in-ok-fill-row.ensures in
+    let q = c.in_ok-fill_row.ensures in
     let i = c.loop-i.invariant in
     (q.loan ∙ i.0, q.long ∙ i.1, omega (arith, q.listed), q.ended)
 
 pub returns : goal.returns
 returns g c =
-    let r = c.in-ok-place.ensures in
+    let r = c.in_ok-place.ensures in
     let i = c.loop-i.invariant in
     record {
       loan = i.0 ∙ r.loan;
-      long = i.1 ∙ placed-long {E = BuildFault} _ _ _ _ _ _ (Ok c.in-ok-place.field-0) r.placed;
+      long = i.1 ∙ placed-long {E = BuildFault} _ _ _ _ _ _ (Ok c.in_ok-place.field-0) r.placed;
       ended = (omega (arith, i.2, c.loop-i-test.false, c.len.ensures), i.3);
     }
