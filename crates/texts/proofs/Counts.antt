@@ -1,5 +1,5 @@
 -- How many fields there are, by the first cut.
-use Rattle.std.proofs.Common.{◌≡◌, ℕ, suc, ◌+◌, ◌<◌, List, [], ◌∷◌, length, ap, ◌∙◌, arith, Bor}
+use Rattle.std.proofs.Common.{◌≡◌, ℕ, suc, List, length, ap, arith, Bor}
 use Rattle.fields.specs.Pieces.{pieces, Free, CutAt}
 use Rattle.fields.proofs.Separated.{pieces-one, pieces-some, cut_pieces}
 

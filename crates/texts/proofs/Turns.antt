@@ -1,5 +1,5 @@
 -- Lines in turn: one line on, and the end.
-use Rattle.std.proofs.Common.{◌≡◌, ℕ, suc, ◌+◌, true, ◌⊎◌, List, [], ◌∷◌, ◌++◌, length, Ok, Err, Result, sym, ap, ◌∙◌, inl, inr, arith, length-append, Bor}
+use Rattle.std.proofs.Common.{◌≡◌, ℕ, suc, ◌+◌, true, ◌⊎◌, List, [], ◌∷◌, length, Ok, Err, Result, sym, ap, ◌∙◌, inl, inr, arith, length-append, Bor}
 use Rattle.kinds.specs.Kinds.{KindModel}
 use Rattle.fields.specs.Pieces.{CutAt}
 use Rattle.automata.specs.Drafts.{DraftModel}

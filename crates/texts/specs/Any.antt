@@ -1,5 +1,4 @@
 -- A draft of one of the kinds that have a letter.
-use Rattle.std.specs.Prelude.{◌≡◌}
 use Rattle.automata.specs.declared.automaton.Automaton.{Automaton}
 use Rattle.automata.specs.Drafts.{DraftModel}
 use Rattle.automata.specs.Shown.{shown}

@@ -1,5 +1,5 @@
 -- What reading a text gives: the draft, or the first question whose answer is no.
-use Rattle.std.specs.Prelude.{ℕ, zero, suc, ◌-◌, Bool, true, false, cond, ◌&&◌, List, [], ◌∷◌, length, take, drop, Some, None, Ok, Err, Option, Result, ◌==◌, nat_le, nat_lt, slice_index, slice_index_or}
+use Rattle.std.specs.Prelude.{ℕ, suc, ◌-◌, Bool, cond, ◌&&◌, List, [], ◌∷◌, length, take, drop, Some, None, Ok, Err, Option, Result, ◌==◌, nat_le, nat_lt, slice_index, slice_index_or}
 use Rattle.std.specs.Str.Parse.{digits_value}
 use Rattle.kinds.specs.Kinds.{KindModel}
 use Rattle.fields.specs.declared.numbers.NumberFault.{NumberFault}

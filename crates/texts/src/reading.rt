@@ -32,7 +32,7 @@ fn is_ended(text: &[u8]) -> bool
 
 // Makes the call that a line stands for.
 fn read_line<K: Kind>(draft: &mut Draft<K>, line: &[u8]) -> Result<(), LineFault>
-    ensures { LineRead model (drawn draft.old) line.now (drawn draft.new) result }
+    ensures { LineRead K.model (drawn draft.old) line.now (drawn draft.new) result }
 {
     let call = read_call(draft.automaton().signs(), line)?;
     draft.apply(call)?;
@@ -42,7 +42,7 @@ fn read_line<K: Kind>(draft: &mut Draft<K>, line: &[u8]) -> Result<(), LineFault
 // Makes the calls of the lines from the second on.
 fn read_lines<K: Kind>(mut draft: Draft<K>, text: &[u8]) -> Result<Draft<K>, TextFault>
     requires { (text.now ≡ []) ⊎ (line_ended text.now ≡ true) }
-    ensures { LinesRead model (drawn draft) text.now result }
+    ensures { LinesRead K.model (drawn draft) text.now result }
 {
     let mut rest = text;
     let mut number = 1;

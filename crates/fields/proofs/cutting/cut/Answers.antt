@@ -22,8 +22,8 @@ returns-then-b-separator c =
       cuts = record {
         whole = p.0;
         first = p.1;
-        front = ap (λ (o : ℕ). (c.args.text.ptr.0, o)) (omega arith);
-        back = ap (λ (o : ℕ). (c.args.text.ptr.0, o)) (omega (arith, p.2));
+        front = ap (λ (o : ℕ). (c.args.text.ref_ptr.0, o)) (omega arith);
+        back = ap (λ (o : ℕ). (c.args.text.ref_ptr.0, o)) (omega (arith, p.2));
       };
       laws = piece_laws;
     }

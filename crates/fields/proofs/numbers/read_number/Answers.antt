@@ -11,16 +11,16 @@ not-padded : (bs : List ℕ) → ((get_or bs 0 0 ≡ 48) × (length bs ≤ 1)) �
 not-padded bs (inl h) = and_right (eqb (get_or bs 0 0) 48) (ltb 1 (length bs)) (le-ltb 1 (length bs) h.1)
 not-padded bs (inr h) = and_left (eqb (get_or bs 0 0) 48) (ltb 1 (length bs)) (ne_eqb (get_or bs 0 0) 48 h)
 
-pub returns-then-is-empty : goal.returns-then-is-empty
-returns-then-is-empty c =
+pub returns-then-is_empty : goal.returns-then-is_empty
+returns-then-is_empty c =
     let bs = c.args.field.now in
-    let v = sym (number-empty bs (sym c.if-is-empty.ensures)) in
+    let v = sym (number-empty bs (sym c.if-is_empty.ensures)) in
     record { value = v; decimal = answer-reads bs (Err Empty) v }
 
-pub returns-then-not-only-digits : goal.returns-then-not-only-digits
-returns-then-not-only-digits c =
+pub returns-then-not-only_digits : goal.returns-then-not-only_digits
+returns-then-not-only_digits c =
     let bs = c.args.field.now in
-    let v = sym (number_not_digit bs (sym c.if-is-empty.ensures) (sym c.if-not-only-digits.ensures)) in
+    let v = sym (number_not_digit bs (sym c.if-is_empty.ensures) (sym c.if-not-only_digits.ensures)) in
     record { value = v; decimal = answer-reads bs (Err NotDigit) v }
 
 pub returns-then-field-gt1 : goal.returns-then-field-gt1

@@ -1,4 +1,4 @@
-use Rattle.std.proofs.Common.{◌≡◌, ℕ, ◌≤◌, true, List, ◌∷◌, length, Ok, Err, Result, sym, refl, ap, ◌∙◌, subst, inr}
+use Rattle.std.proofs.Common.{◌≡◌, ℕ, ◌≤◌, true, List, ◌∷◌, length, Ok, Err, Result, sym, ap, ◌∙◌, subst, inr}
 use Rattle.std.proofs.lemmas.Result.{err_from_is_err_and}
 use Rattle.automata.specs.declared.signs.Signs.{Signs}
 use Rattle.automata.specs.Drafts.{fresh}
@@ -35,19 +35,19 @@ named l r k signs e h = subst (HeadRead l) e h
 
 pub returns-in_err-kind : goal.returns-in_err-kind
 returns-in_err-kind c =
-    let p = err_from_is_err_and c.from-residual.result c.from-residual.ensures.1 in
+    let p = err_from_is_err_and c.from_residual.result c.from_residual.ensures.1 in
     let text = c.args.text.now in
     let l = c.in-Some.line.now in
     let ls = lines_in c.in-Some.rest.now in
     let x = c.in_err-kind.field-0.0 in
-    let ended : line_ended c.args.text.now ≡ true = sym c.if-not-is-ended.ensures in
-    let q = placed-fault 1 c.read-head.result x c.in_err-kind.ensures in
+    let ended : line_ended c.args.text.now ≡ true = sym c.if-not-is_ended.ensures in
+    let q = placed-fault 1 c.read_head.result x c.in_err-kind.ensures in
     let f = left_cut c.in-Some.ensures.cuts (inr ended) in
     rw (p.1, p.2) (opened text l ls c.if-text-gt-LIMIT.false ended f.lines
-    ∙ (all_head-fault l ls x.1 (faulty l c.read-head.result x.1 q.1 c.read-head.ensures) ∙ ap (λ (n : ℕ). Err (Line n c.in_err-kind.field-0.0.1)) (sym q.0)))
+    ∙ (all_head-fault l ls x.1 (faulty l c.read_head.result x.1 q.1 c.read_head.ensures) ∙ ap (λ (n : ℕ). Err (Line n c.in_err-kind.field-0.0.1)) (sym q.0)))
 
-pub read-rest-requires : goal.read-rest-requires
-read-rest-requires c = (left_cut c.in-Some.ensures.cuts (inr (sym c.if-not-is-ended.ensures))).rest
+pub read_rest-requires : goal.read_rest-requires
+read_rest-requires c = (left_cut c.in-Some.ensures.cuts (inr (sym c.if-not-is_ended.ensures))).rest
 
 pub returns : goal.returns
 returns c =
@@ -56,9 +56,9 @@ returns c =
     let ls = lines_in c.in-Some.rest.now in
     let k = c.in_ok-kind.kind in
     let signs = c.in_ok-kind.signs in
-    let ended : line_ended c.args.text.now ≡ true = sym c.if-not-is-ended.ensures in
+    let ended : line_ended c.args.text.now ≡ true = sym c.if-not-is_ended.ensures in
     let f = left_cut c.in-Some.ensures.cuts (inr ended) in
-    let q = placed-value 1 c.read-head.result (k, signs) c.in_ok-kind.ensures in
-    given text c.in-Some.rest.now k (sign_bytes signs) c.read-rest.result
-    (opened text l ls c.if-text-gt-LIMIT.false ended f.lines ∙ all_head l ls k (sign_bytes signs) (named l c.read-head.result k signs q c.read-head.ensures))
-    c.read-rest.ensures
+    let q = placed-value 1 c.read_head.result (k, signs) c.in_ok-kind.ensures in
+    given text c.in-Some.rest.now k (sign_bytes signs) c.read_rest.result
+    (opened text l ls c.if-text-gt-LIMIT.false ended f.lines ∙ all_head l ls k (sign_bytes signs) (named l c.read_head.result k signs q c.read_head.ensures))
+    c.read_rest.ensures

@@ -1,11 +1,10 @@
-use Rattle.std.proofs.Common.{◌≡◌, ℕ, List, Ok, Err, Result, sym, ap, ◌∙◌}
+use Rattle.std.proofs.Common.{◌≡◌, ℕ, List, Ok, Result, sym, ap, ◌∙◌}
 use Rattle.std.proofs.lemmas.Result.{err_from_is_err_and}
-use Rattle.kinds.specs.Kinds.{KindModel}
 use Rattle.automata.specs.declared.automaton.Automaton.{Automaton}
 use Rattle.drafts.specs.declared.calls.Call.{Call}
 use Rattle.automata.specs.Shown.{shown}
 use Rattle.drafts.specs.Drawn.{drawn}
-use Rattle.drafts.specs.Calls.{refusal, after, answer}
+use Rattle.drafts.specs.Calls.{refusal, answer}
 use Rattle.drafts.proofs.OneCall.{accepted-after}
 use Rattle.texts.specs.declared.faults.LineFault.{LineFault}
 use Rattle.texts.specs.Reading.{call_of_line}
@@ -19,7 +18,7 @@ called a b signs l r e f h = ap (λ (s : List ℕ). call_of_line s l) (ap (λ (x
 
 pub returns-in_err-apply : goal.returns-in_err-apply
 returns-in_err-apply g c =
-    let p = err_from_is_err_and c.from-residual-in_err-apply.result c.from-residual-in_err-apply.ensures.1 in
+    let p = err_from_is_err_and c.from_residual-in_err-apply.result c.from_residual-in_err-apply.ensures.1 in
     let K = g.K.Kind.model in
     let d = drawn c.args.draft.now in
     let l = c.args.line.now in

@@ -1,4 +1,4 @@
-use Rattle.std.proofs.Common.{◌≡◌, ℕ, ◌+◌, ◌<◌, ◌≤◌, length, Ok, Err, Result, sym, refl, ap, ◌∙◌, subst, arith}
+use Rattle.std.proofs.Common.{ℕ, ◌+◌, Err, Result, sym, ap, ◌∙◌, subst, arith}
 use Rattle.std.proofs.lemmas.Result.{err_from_is_err_and}
 use Rattle.fields.proofs.Separated.{cut_length}
 use Rattle.drafts.specs.Drawn.{drawn}
@@ -12,14 +12,14 @@ use Rattle.texts.proofs.reading.read_lines.Goals as goal
 
 pub returns-in_err-at : goal.returns-in_err-at
 returns-in_err-at g c =
-    let p = err_from_is_err_and c.from-residual.result c.from-residual.ensures.1 in
+    let p = err_from_is_err_and c.from_residual.result c.from_residual.ensures.1 in
     let K = g.K.Kind.model in
     let d = drawn c.loop-line.draft in
     let l = c.in-Some.line.now in
     let n = c.loop-line.number + 1 in
     let x = c.in_err-at.field-0.0 in
-    let q = placed-fault (c.loop-line.number + 1) c.read-line.result c.in_err-at.field-0.0 c.in_err-at.ensures in
-    let r = subst (λ (r : Result (Unit {0}) LineFault). LineRead g.K.Kind.model (drawn c.loop-line.draft) c.in-Some.line.now (drawn c.read-line.new.draft) r) q.1 c.read-line.ensures in
+    let q = placed-fault (c.loop-line.number + 1) c.read_line.result c.in_err-at.field-0.0 c.in_err-at.ensures in
+    let r = subst (λ (r : Result (Unit {0}) LineFault). LineRead g.K.Kind.model (drawn c.loop-line.draft) c.in-Some.line.now (drawn c.read_line.new.draft) r) q.1 c.read_line.ensures in
     let f = left_cut c.in-Some.ensures.cuts c.loop-line.invariant.0 in
     rw (p.1, p.2) (turn_fault K n d c.loop-line.rest.now l (lines_in c.in-Some.more.now) x.1 _ f.lines r c.loop-line.invariant.2
     ∙ ap (λ (m : ℕ). Err (Line m c.in_err-at.field-0.0.1)) (sym q.0))
@@ -33,10 +33,10 @@ loop-line-preserved g c =
     let d = drawn c.loop-line.draft in
     let l = c.in-Some.line.now in
     let n = c.loop-line.number + 1 in
-    let q = placed-value (c.loop-line.number + 1) c.read-line.result c.in_ok-at.field-0 c.in_ok-at.ensures in
-    let r = subst (λ (r : Result (Unit {0}) LineFault). LineRead g.K.Kind.model (drawn c.loop-line.draft) c.in-Some.line.now (drawn c.read-line.new.draft) r) q c.read-line.ensures in
+    let q = placed-value (c.loop-line.number + 1) c.read_line.result c.in_ok-at.field-0 c.in_ok-at.ensures in
+    let r = subst (λ (r : Result (Unit {0}) LineFault). LineRead g.K.Kind.model (drawn c.loop-line.draft) c.in-Some.line.now (drawn c.read_line.new.draft) r) q c.read_line.ensures in
     let f = left_cut c.in-Some.ensures.cuts c.loop-line.invariant.0 in (
       f.rest,
       omega (arith, c.loop-line.invariant.1, cut_length c.in-Some.ensures.cuts),
-      turn_done K n d c.loop-line.rest.now l (lines_in c.in-Some.more.now) (drawn c.read-line.new.draft) _ f.lines r c.loop-line.invariant.2,
+      turn_done K n d c.loop-line.rest.now l (lines_in c.in-Some.more.now) (drawn c.read_line.new.draft) _ f.lines r c.loop-line.invariant.2,
     )

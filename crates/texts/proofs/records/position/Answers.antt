@@ -1,4 +1,4 @@
-use Rattle.std.proofs.Common.{◌<◌, arith}
+use Rattle.std.proofs.Common.{arith}
 use Rattle.texts.proofs.Places.{place_is, place_none}
 use Rattle.texts.proofs.records.position.Goals as goal
 

@@ -7,12 +7,12 @@ use Rattle.texts.proofs.records.three_fields.Goals as goal
 pub returns-in-None : goal.returns-in-None
 returns-in-None c = (refl, one_only c.args.rest.now 3 c.in-None.ensures.cuts (λ e. omega arith))
 
-pub returns-in_err-second : goal.returns-in_err-second
-returns-in_err-second c =
-    let p = err_from_is_err_and c.from-residual.result c.from-residual.ensures.1 in
-    let e = c.in_err-second.ensures in
+pub returns-in_err-second-in-Some : goal.returns-in_err-second-in-Some
+returns-in_err-second-in-Some c =
+    let p = err_from_is_err_and c.from_residual.result c.from_residual.ensures.1 in
+    let e = c.in_err-second-in-Some.ensures in
     rw (p.1, p.2) (e.0, one_more 2 c.in-Some.ensures.cuts e.1)
 
-pub returns-in_ok-second : goal.returns-in_ok-second
-returns-in_ok-second c =
-    cut_pieces c.in-Some.ensures.cuts ∙ ap (λ (ps : List (List ℕ)). c.in-Some.first.now ∷ ps) c.in_ok-second.ensures
+pub returns-in_ok-second-in-Some : goal.returns-in_ok-second-in-Some
+returns-in_ok-second-in-Some c =
+    cut_pieces c.in-Some.ensures.cuts ∙ ap (λ (ps : List (List ℕ)). c.in-Some.first.now ∷ ps) c.in_ok-second-in-Some.ensures

@@ -5,5 +5,5 @@ use Rattle.texts.proofs.tidying.refusal_text.Goals as goal
 pub returns : goal.returns
 returns c =
     let long = c.in_ok-text.ensures.len in
-    filled _ c.as-mut-slice.result.now c.write-refusal.new.out c.in_ok-text.text.items c.in_ok-text.text.len
-    c.write-refusal.result (long ∙ c.refusal-len.ensures) c.as-mut-slice.ensures.len c.write-refusal.ensures
+    filled _ c.as_mut_slice.result.now c.write_refusal.new.out c.in_ok-text.text.items c.in_ok-text.text.len
+    c.write_refusal.result (long ∙ c.refusal_len.ensures) c.as_mut_slice.ensures.len c.write_refusal.ensures

@@ -5,4 +5,4 @@ use Rattle.texts.proofs.Lengths.{length-shown}
 use Rattle.texts.proofs.writing.draft_len.Goals as goal
 
 pub returns : goal.returns
-returns c = measured c.put-draft.ensures (omega (arith, length-shown (letter_of_byte c.args.draft.now) (held_by c.args.draft.now)))
+returns c = measured c.put_draft.ensures (omega (arith, length-shown (letter_of_byte c.args.draft.now) (held_by c.args.draft.now)))

@@ -12,7 +12,7 @@ loop-from-init c = puts_none c.args.out.now c.args.at (omega arith) (omega arith
 pub loop-from-preserved : goal.loop-from-preserved
 loop-from-preserved c =
     let d = shown c.args.automaton.now in
-    puts_more d.signs c.loop-from.from (links_from d) c.loop-from.invariant c.put-arrows-from-place.ensures
+    puts_more d.signs c.loop-from.from (links_from d) c.loop-from.invariant c.put_arrows_from-place.ensures
 
 pub returns : goal.returns
 returns c =

@@ -12,7 +12,7 @@ loop-letter-init c = puts_none c.args.out.now c.args.at (omega arith) (omega ari
 pub loop-letter-preserved : goal.loop-letter-preserved
 loop-letter-preserved c =
     let d = shown c.args.automaton.now in
-    puts_more d.signs c.loop-letter.letter (links_by d c.args.from) c.loop-letter.invariant c.put-ends-place.ensures
+    puts_more d.signs c.loop-letter.letter (links_by d c.args.from) c.loop-letter.invariant c.put_ends-place.ensures
 
 pub returns : goal.returns
 returns c =

@@ -10,5 +10,5 @@ returns c =
     let d = shown c.automaton-automaton.result.now in
     let k = c.letter.result in
     puts_as (ap₂ written c.letter.ensures (ap shown c.automaton-automaton.ensures))
-    (puts_draft k d (puts_as (ap (λ (signs : List ℕ). ended_line (head_fields k signs)) c.signs.ensures) c.put-head-at.ensures)
-    c.put-states-at.ensures c.put-entries-at.ensures c.put-arrows.ensures)
+    (puts_draft k d (puts_as (ap (λ (signs : List ℕ). ended_line (head_fields k signs)) c.signs.ensures) c.put_head-at.ensures)
+    c.put_states-at.ensures c.put_entries-at.ensures c.put_arrows.ensures)

@@ -4,13 +4,13 @@ use Rattle.automata.specs.Shown.{shown}
 use Rattle.texts.proofs.LinesPut.{puts_when, puts_unless}
 use Rattle.texts.proofs.writing.put_entry.Goals as goal
 
-pub returns-then-is-entry : goal.returns-then-is-entry
-returns-then-is-entry c =
+pub returns-then-is_entry : goal.returns-then-is_entry
+returns-then-is_entry c =
     let d = shown c.args.automaton.now in
-    puts_when d.signs (d.entry c.args.state) (Enter c.args.state ∷ []) (sym c.is-entry.ensures ∙ c.if-is-entry.true) c.put-numbered.ensures
+    puts_when d.signs (d.entry c.args.state) (Enter c.args.state ∷ []) (sym c.is_entry.ensures ∙ c.if-is_entry.true) c.put_numbered.ensures
 
-pub returns-else-is-entry : goal.returns-else-is-entry
-returns-else-is-entry c =
+pub returns-else-is_entry : goal.returns-else-is_entry
+returns-else-is_entry c =
     let d = shown c.args.automaton.now in
     puts_unless d.signs c.args.out.now c.args.at (d.entry c.args.state) (Enter c.args.state ∷ [])
-    (sym c.is-entry.ensures ∙ c.if-is-entry.false) (omega arith) (omega arith)
+    (sym c.is_entry.ensures ∙ c.if-is_entry.false) (omega arith) (omega arith)

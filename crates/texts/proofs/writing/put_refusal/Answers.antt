@@ -7,7 +7,7 @@ pub returns : goal.returns
 returns c = record {
   puts =
       simp (append-nil, append_assoc)
-      (puts_then c.put-at.ensures.puts (puts_then c.put-field-at.ensures (puts_then c.put-field-at-2.ensures
-      (puts_then c.put-field-at-3.ensures (puts_then c.put-field-at-4.ensures c.put.ensures.puts)))));
+      (puts_then c.put-at.ensures.puts (puts_then c.put_field-at.ensures (puts_then c.put_field-at-2.ensures
+      (puts_then c.put_field-at-3.ensures (puts_then c.put_field-at-4.ensures c.put.ensures.puts)))));
   short = length-refusal c.args.refusal (omega arith) (omega arith) (omega arith) (omega arith);
 }

@@ -13,7 +13,7 @@ returns-in-Some c =
     let p = c.args.state in
     let f = c.in-Some.ensures ∙ cond-true (is_state d p) (Some (get_or d.values p 0)) None (lt-ltb p (size d) c.requires) in
     let e : c.in-Some.code ≡ get_or d.values p 0 = cc in
-    puts_as (ap (λ (v : ℕ). ended_line ((83 ∷ []) ∷ decimal v ∷ [])) e) c.put-numbered.ensures
+    puts_as (ap (λ (v : ℕ). ended_line ((83 ∷ []) ∷ decimal v ∷ [])) e) c.put_numbered.ensures
 
 pub returns-in-None : goal.returns-in-None
 returns-in-None c =

@@ -12,7 +12,7 @@ loop-state-init c = puts_none c.args.out.now c.args.at (omega arith) (omega arit
 pub loop-state-preserved : goal.loop-state-preserved
 loop-state-preserved c =
     let d = shown c.args.automaton.now in
-    puts_more d.signs c.loop-state.state (grow_call d) c.loop-state.invariant c.put-state-place.ensures
+    puts_more d.signs c.loop-state.state (grow_call d) c.loop-state.invariant c.put_state-place.ensures
 
 pub returns : goal.returns
 returns c =

@@ -3,4 +3,4 @@ use Rattle.texts.proofs.LinesPut.{measured}
 use Rattle.texts.proofs.writing.refusal_len.Goals as goal
 
 pub returns : goal.returns
-returns c = measured c.put-refusal.ensures.puts (omega (arith, c.put-refusal.ensures.short))
+returns c = measured c.put_refusal.ensures.puts (omega (arith, c.put_refusal.ensures.short))
