@@ -6,7 +6,7 @@ use Rattle.automata.specs.Tests.{every}
 use Rattle.views.specs.declared.colouring.Colouring.{Colouring}
 use Rattle.pressing.specs.declared.judging.Verdict.{Verdict}
 use Rattle.pressing.specs.declared.judging.Verdict.TheVariants.{Atomic, Told}
-use Rattle.pressing.specs.Law.{code_of_entry}
+use Rattle.pressing.specs.Press.{code_of_entry}
 use Rattle.pressing.specs.Verdicts.{Tells, Alone, AloneTo, FirstPair, Judged}
 use Rattle.cases.proofs.Walking.{every-at, every_from, three}
 use Rattle.cases.proofs.Painting.{codes_of}

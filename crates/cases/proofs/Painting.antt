@@ -4,7 +4,7 @@ use mathlib.Core.Path.{fun_ext}
 use Rattle.std.proofs.lemmas.List.{get_or_past, get_or-take, get_or-map, get_or_default, ext_get_or}
 use Rattle.std.proofs.lemmas.Bool.{cases_lt, lt-ltb, le-ltb, eqb-true, eq-eqb, and_parts, and_from, cond-true, cond-false}
 use Rattle.kinds.specs.Kinds.{KindModel, clean}
-use Rattle.kinds.proofs.Joins.{join_all-admitted, clean-admitted}
+use Rattle.kinds.proofs.Joins.{join_all_admitted, clean_admitted}
 use Rattle.automata.specs.Signs.{sign_fault}
 use Rattle.automata.specs.Drafts.{DraftModel, size}
 use Rattle.drafts.specs.Words.{Over, run, tabulate}
@@ -17,7 +17,7 @@ use Rattle.views.specs.declared.colouring.Colouring.{Colouring}
 use Rattle.views.specs.Colourings.{plain, coloured}
 use Rattle.views.specs.DraftViews.{join_over, ends_joined, backward_draft_model}
 use Rattle.views.specs.TableViews.{next_code, backward_table_model}
-use Rattle.pressing.specs.Law.{code_of_entry}
+use Rattle.pressing.specs.Press.{code_of_entry}
 use Rattle.views.proofs.ColouredLaws.{placed, coloured-length, coloured-at, coloured_is, coloured_state, coloured-none}
 
 abbrev pub same_codes : List ℕ → List ℕ → Bool
@@ -152,7 +152,7 @@ draft_coding K d = record {
   long = refl;
   code = λ g a p. join_over K (size d) (d.arrow p a) g;
   value = join_over K (size d) d.entry;
-  admitted = λ g. join_all-admitted K (tabulate (size d) (λ p. cond (d.entry p) (g p) K.none));
+  admitted = λ g. join_all_admitted K (tabulate (size d) (λ p. cond (d.entry p) (g p) K.none));
 }
 
 pub draft-painted : (K : KindModel) (d : DraftModel) (ok : sign_fault d.signs ≡ None) → Painted d.signs ok (draft_coding K d) (backward_draft_model K d ok)
@@ -171,7 +171,7 @@ table_coding K n t = record {
   long = refl;
   code = λ g a p. g (table_step n t p a);
   value = λ g. clean K (g 0);
-  admitted = λ g. clean-admitted K (g 0);
+  admitted = λ g. clean_admitted K (g 0);
 }
 
 pub table-painted : (K : KindModel) (signs : List ℕ) (ok : sign_fault signs ≡ None) (t : TableModel)

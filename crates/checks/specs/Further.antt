@@ -11,7 +11,7 @@ nothing = record {
   op = λ a b. 0;
   none = 0;
   none_is = refl;
-  none-admitted = refl;
+  none_admitted = refl;
   closed = λ a b h k. refl;
   unit = λ a h. sym (eqb-true a 0 h);
   assoc = λ a b c h k i. refl;
@@ -23,8 +23,8 @@ nothing = record {
 abbrev pub gapped : ℕ → Bool
 gapped a = a == 0 || (a == 2 || a == 7)
 
-pub gapped-max : (a b : ℕ) → gapped a ≡ true → gapped b ≡ true → gapped (max a b) ≡ true
-gapped-max a b h k = elim (largest a b) [ inl e ↦ subst (λ (n : ℕ). gapped n ≡ true) (sym e) h | inr e ↦ subst (λ (n : ℕ). gapped n ≡ true) (sym e) k ]
+pub gapped_max : (a b : ℕ) → gapped a ≡ true → gapped b ≡ true → gapped (max a b) ≡ true
+gapped_max a b h k = elim (largest a b) [ inl e ↦ subst (λ (n : ℕ). gapped n ≡ true) (sym e) h | inr e ↦ subst (λ (n : ℕ). gapped n ≡ true) (sym e) k ]
   where
     largest : (a b : ℕ) → (max a b ≡ a) ⊎ (max a b ≡ b)
     largest a b = elim (cases_lt a b) [ inl l ↦ inr (omega arith) | inr l ↦ inl (omega arith) ]
@@ -35,8 +35,8 @@ gaps = record {
   op = max;
   none = 0;
   none_is = refl;
-  none-admitted = refl;
-  closed = gapped-max;
+  none_admitted = refl;
+  closed = gapped_max;
   unit = λ a h. omega arith;
   assoc = λ a b c h k i. omega arith;
   comm = λ a b h k. omega arith;

@@ -3,7 +3,7 @@ use Rattle.std.proofs.Common.{◌≡◌, ℕ, zero, suc, ◌+◌, ◌<◌, Bool,
 use mathlib.Core.Bool.{false≢true}
 use Rattle.std.proofs.lemmas.Bool.{or_cases, or_left, or_right, eqb-true, eq-eqb}
 use Rattle.kinds.specs.Kinds.{KindModel, clean, join, join_all}
-use Rattle.kinds.proofs.Joins.{clean_is, clean-admitted, join-admitted, join_all-admitted, join_all-push, join-clean, unit-right, Below, none_below, below_left, below_right, join-below, equal_by_below}
+use Rattle.kinds.proofs.Joins.{clean_is, clean_admitted, join_admitted, join_all_admitted, join_all-push, join-clean, unit_right, Below, none_below, below_left, below_right, join-below, equal_by_below}
 use Rattle.drafts.specs.Words.{tabulate}
 use Rattle.drafts.proofs.Tabulates.{tabulate-more}
 
@@ -36,7 +36,7 @@ module _ (K : KindModel) where
   Above m s f u = (p : ℕ) → p < m → s p ≡ true → Below K (f p) u
 
   pub gather_admitted : (m : ℕ) (s : ℕ → Bool) (f : ℕ → ℕ) → K.admits (gather m s f) ≡ true
-  gather_admitted m s f = join_all-admitted K (tabulate m (λ p. cond (s p) (f p) K.none))
+  gather_admitted m s f = join_all_admitted K (tabulate m (λ p. cond (s p) (f p) K.none))
 
   pub gather_below : (m : ℕ) (s : ℕ → Bool) (f : ℕ → ℕ) (u : ℕ) → K.admits u ≡ true → Above m s f u → Below K (gather m s f) u
   gather_below m s f u a h = all-below m (λ p. cond (s p) (f p) K.none) u a (λ p l. cond_below (s p) (f p) u a (h p l))
@@ -64,13 +64,13 @@ module _ (K : KindModel) where
 
   pub gather_one : (m : ℕ) (q : ℕ) (f : ℕ → ℕ) → q < m → gather m (λ p. eqb p q) f ≡ clean K (f q)
   gather_one m q f l =
-      gather_is m (λ p. eqb p q) f (clean K (f q)) (clean-admitted K (f q))
+      gather_is m (λ p. eqb p q) f (clean K (f q)) (clean_admitted K (f q))
       (λ u h k. join-clean K (f q) u ∙ k q l (eq-eqb q q refl))
       (λ u h k p l' e. ap (λ x. join K (f x) u) (eqb-true p q e) ∙ sym (join-clean K (f q) u) ∙ k)
 
   pub gather_or : (m : ℕ) (s t : ℕ → Bool) (f : ℕ → ℕ) → gather m (λ p. s p || t p) f ≡ join K (gather m s f) (gather m t f)
   gather_or m s t f =
-      gather_is m (λ p. s p || t p) f (join K (gather m s f) (gather m t f)) (join-admitted K (gather m s f) (gather m t f))
+      gather_is m (λ p. s p || t p) f (join K (gather m s f) (gather m t f)) (join_admitted K (gather m s f) (gather m t f))
       (λ u h k. join-below K (gather m s f) (gather m t f) u
       (gather_below m s f u h (λ p l e. k p l (or_left (s p) (t p) e)))
       (gather_below m t f u h (λ p l e. k p l (or_right (s p) (t p) e))))
@@ -93,5 +93,5 @@ module _ (K : KindModel) where
   gather_out m s f h =
       gather_more m s f
       ∙ ap (λ b. join K (gather m s f) (cond b (f m) K.none)) h
-      ∙ unit-right K (gather m s f)
+      ∙ unit_right K (gather m s f)
       ∙ clean_is K (gather m s f) (gather_admitted m s f)

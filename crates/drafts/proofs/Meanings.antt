@@ -1,7 +1,7 @@
 -- What a draft says of a word, from a state, from a set of states and from the entries.
 use Rattle.std.proofs.Common.{◌≡◌, ℕ, ◌<◌, Bool, true, ◌||◌, eqb, List, [], ◌∷◌, ◌++◌, get_or, sym, refl, ap, ◌∙◌}
 use Rattle.kinds.specs.Kinds.{KindModel, clean, join}
-use Rattle.kinds.proofs.Joins.{clean_is, clean-idem}
+use Rattle.kinds.proofs.Joins.{clean_is, clean_idem}
 use Rattle.automata.specs.Drafts.{DraftModel, size}
 use Rattle.drafts.specs.Words.{tabulate, member, union, only, entries, onward, reach_from, reach, weigh, value, value_from}
 use Rattle.drafts.specs.WordLaws.{WordLaws}
@@ -39,7 +39,7 @@ module _ (K : KindModel) (d : DraftModel) where
   pub gather_from : (s : ℕ → Bool) (w : List ℕ) → gather K (size d) s (λ p. get_or (ahead K d w) p K.none) ≡ gather K (size d) s (λ p. value_from K d p w)
   gather_from s w =
       gather_same K (size d) s s (λ p. get_or (ahead K d w) p K.none) (λ p. value_from K d p w) (λ p l. refl)
-      (λ p l e. sym (ap (clean K) (from_is p w l) ∙ clean-idem K (get_or (ahead K d w) p K.none)))
+      (λ p l e. sym (ap (clean K) (from_is p w l) ∙ clean_idem K (get_or (ahead K d w) p K.none)))
 
   -- the value of w from a set of states is the join of its values from each
   pub weigh_from : (s : List Bool) (w : List ℕ) → weigh K d (reach_from d s w) d.values ≡ gather K (size d) (member s) (λ p. value_from K d p w)

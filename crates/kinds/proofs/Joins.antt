@@ -7,46 +7,46 @@ module _ (K : KindModel) where
   pub clean_is : (a : ℕ) → K.admits a ≡ true → clean K a ≡ a
   clean_is a h = ap (λ b. cond b a K.none) h
 
-  pub clean-admitted : (a : ℕ) → K.admits (clean K a) ≡ true
-  clean-admitted a = by (K.admits a) refl
+  pub clean_admitted : (a : ℕ) → K.admits (clean K a) ≡ true
+  clean_admitted a = by (K.admits a) refl
     where
       by : (b : Bool) → K.admits a ≡ b → K.admits (cond b a K.none) ≡ true
       by true e = e
-      by false e = K.none-admitted
+      by false e = K.none_admitted
 
-  pub clean-idem : (a : ℕ) → clean K (clean K a) ≡ clean K a
-  clean-idem a = clean_is (clean K a) (clean-admitted a)
+  pub clean_idem : (a : ℕ) → clean K (clean K a) ≡ clean K a
+  clean_idem a = clean_is (clean K a) (clean_admitted a)
 
-  pub join-admitted : (a b : ℕ) → K.admits (join K a b) ≡ true
-  join-admitted a b = K.closed (clean K a) (clean K b) (clean-admitted a) (clean-admitted b)
+  pub join_admitted : (a b : ℕ) → K.admits (join K a b) ≡ true
+  join_admitted a b = K.closed (clean K a) (clean K b) (clean_admitted a) (clean_admitted b)
 
-  pub join_all-admitted : (cs : List ℕ) → K.admits (join_all K cs) ≡ true
-  join_all-admitted [] = K.none-admitted
-  join_all-admitted (c ∷ cs) = join-admitted c (join_all K cs)
+  pub join_all_admitted : (cs : List ℕ) → K.admits (join_all K cs) ≡ true
+  join_all_admitted [] = K.none_admitted
+  join_all_admitted (c ∷ cs) = join_admitted c (join_all K cs)
 
   pub join-comm : (a b : ℕ) → join K a b ≡ join K b a
-  join-comm a b = K.comm (clean K a) (clean K b) (clean-admitted a) (clean-admitted b)
+  join-comm a b = K.comm (clean K a) (clean K b) (clean_admitted a) (clean_admitted b)
 
   pub join-assoc : (a b c : ℕ) → join K (join K a b) c ≡ join K a (join K b c)
   join-assoc a b c =
-      ap (λ x. K.op x (clean K c)) (clean_is (join K a b) (join-admitted a b))
-      ∙ K.assoc (clean K a) (clean K b) (clean K c) (clean-admitted a) (clean-admitted b) (clean-admitted c)
-      ∙ ap (K.op (clean K a)) (sym (clean_is (join K b c) (join-admitted b c)))
+      ap (λ x. K.op x (clean K c)) (clean_is (join K a b) (join_admitted a b))
+      ∙ K.assoc (clean K a) (clean K b) (clean K c) (clean_admitted a) (clean_admitted b) (clean_admitted c)
+      ∙ ap (K.op (clean K a)) (sym (clean_is (join K b c) (join_admitted b c)))
 
   pub join-idem : (a : ℕ) → join K a a ≡ clean K a
-  join-idem a = K.idem (clean K a) (clean-admitted a)
+  join-idem a = K.idem (clean K a) (clean_admitted a)
 
   pub join-clean : (a b : ℕ) → join K (clean K a) b ≡ join K a b
-  join-clean a b = ap (λ x. K.op x (clean K b)) (clean-idem a)
+  join-clean a b = ap (λ x. K.op x (clean K b)) (clean_idem a)
 
   pub unit_left : (a : ℕ) → join K K.none a ≡ clean K a
-  unit_left a = ap (λ x. K.op x (clean K a)) (clean_is K.none K.none-admitted) ∙ K.unit (clean K a) (clean-admitted a)
+  unit_left a = ap (λ x. K.op x (clean K a)) (clean_is K.none K.none_admitted) ∙ K.unit (clean K a) (clean_admitted a)
 
-  pub unit-right : (a : ℕ) → join K a K.none ≡ clean K a
-  unit-right a = join-comm a K.none ∙ unit_left a
+  pub unit_right : (a : ℕ) → join K a K.none ≡ clean K a
+  unit_right a = join-comm a K.none ∙ unit_left a
 
   pub join_all-append : (cs ds : List ℕ) → join_all K (cs ++ ds) ≡ join K (join_all K cs) (join_all K ds)
-  join_all-append [] ds = sym (unit_left (join_all K ds) ∙ clean_is (join_all K ds) (join_all-admitted ds))
+  join_all-append [] ds = sym (unit_left (join_all K ds) ∙ clean_is (join_all K ds) (join_all_admitted ds))
   join_all-append (c ∷ cs) ds = ap (join K c) (join_all-append cs ds) ∙ sym (join-assoc c (join_all K cs) (join_all K ds))
 
   -- for loops: one more code at the end
@@ -56,16 +56,16 @@ module _ (K : KindModel) where
 
   pub join_laws_lem : JoinLaws K
   join_laws_lem = record {
-    clean-admitted = clean-admitted;
-    join-admitted = join-admitted;
-    join_all-admitted = join_all-admitted;
-    clean-idem = clean-idem;
+    clean_admitted = clean_admitted;
+    join_admitted = join_admitted;
+    join_all_admitted = join_all_admitted;
+    clean_idem = clean_idem;
     comm = join-comm;
     assoc = join-assoc;
     idem = join-idem;
     unit_left = unit_left;
-    unit-right = unit-right;
-    single = unit-right;
+    unit_right = unit_right;
+    single = unit_right;
     append = join_all-append;
   }
 

@@ -8,8 +8,8 @@ use Rattle.kinds.specs.Ors.{or_assoc}
 use Rattle.kinds.specs.Kinds.{KindModel}
 
 -- the larger of two codes stays below what both stay below
-pub max-below : (n a b : ℕ) → nat_lt a n ≡ true → nat_lt b n ≡ true → nat_lt (max a b) n ≡ true
-max-below n a b h k = let p : a < n = ltb-true a n h in let q : b < n = ltb-true b n k in lt-ltb (max a b) n (omega arith)
+pub max_below : (n a b : ℕ) → nat_lt a n ≡ true → nat_lt b n ≡ true → nat_lt (max a b) n ≡ true
+max_below n a b h k = let p : a < n = ltb-true a n h in let q : b < n = ltb-true b n k in lt-ltb (max a b) n (omega arith)
 
 -- the codes below n, joined to the larger
 abbrev pub largest : (n : ℕ) → nat_lt 0 n ≡ true → KindModel
@@ -18,8 +18,8 @@ largest n some = record {
   op = max;
   none = 0;
   none_is = refl;
-  none-admitted = some;
-  closed = max-below n;
+  none_admitted = some;
+  closed = max_below n;
   unit = λ a h. omega arith;
   assoc = λ a b c h k i. omega arith;
   comm = λ a b h k. omega arith;
@@ -41,7 +41,7 @@ m_model = record {
   op = bit_or;
   none = 0;
   none_is = refl;
-  none-admitted = refl;
+  none_admitted = refl;
   closed = λ a b h k. lt-ltb (bit_or a b) 256 (or_lt 8 a b (ltb-true a 256 h) (ltb-true b 256 k));
   unit = λ a h. refl;
   assoc = λ a b c h k i. or_assoc a b c;

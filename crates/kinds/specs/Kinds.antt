@@ -9,7 +9,7 @@ pub record KindModel : Type 0 where
   pub none : ℕ
   -- the one place that says which code none is
   pub none_is : none ≡ 0
-  pub none-admitted : admits none ≡ true
+  pub none_admitted : admits none ≡ true
   pub closed : (a b : ℕ) → admits a ≡ true → admits b ≡ true → admits (op a b) ≡ true
   pub unit : (a : ℕ) → admits a ≡ true → op none a ≡ a
   pub assoc : (a b c : ℕ) → admits a ≡ true → admits b ≡ true → admits c ≡ true → op (op a b) c ≡ op a (op b c)

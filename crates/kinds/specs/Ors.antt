@@ -1,6 +1,6 @@
 -- Bitwise or is associative, digit by digit.
 use Rattle.std.specs.Prelude.{◌≡◌, ℕ, zero, suc, ◌+◌, ◌*◌, ◌/◌, ◌%◌, ◌<◌, bit_or, refl}
-use Rattle.std.proofs.Common.{sym, ap, ap₂, ◌∙◌, div-add-mod', mod-lt, arith}
+use Rattle.std.proofs.Common.{sym, ap, ap₂, ◌∙◌, div-add-mod', arith}
 use Rattle.std.proofs.Math.Arith.{bin_ind}
 use Rattle.std.proofs.lemmas.Nat.{or_shr, or_mod}
 

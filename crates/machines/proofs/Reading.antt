@@ -23,7 +23,7 @@ module _ {S : Type 0} {m : MachineModel S} {t : TableModel} {xs : List S} (b : B
     where
       go : (i < count t) ⊎ (count t ≤ i) → m.kind.admits (get_or t.values i m.kind.none) ≡ true
       go (inl h) = ap m.kind.admits (value-at i h) ∙ m.admitted (entry m xs i)
-      go (inr h) = ap m.kind.admits (get_or_past t.values i m.kind.none h) ∙ m.kind.none-admitted
+      go (inr h) = ap m.kind.admits (get_or_past t.values i m.kind.none h) ∙ m.kind.none_admitted
 
   -- from each state, by every word
   reads-from : (w : List ℕ) (i : ℕ) → i < count t → get_or t.values (run (table_step (alphabet m) t) i w) m.kind.none ≡ m.value (run m.step (entry m xs i) w)

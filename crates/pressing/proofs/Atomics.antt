@@ -1,5 +1,5 @@
 -- What a verdict says of a state.
-use Rattle.std.proofs.Common.{◌≡◌, ℕ, ◌+◌, ◌<◌, Some, None, Option, sym, refl, ap, inl, inr, arith}
+use Rattle.std.proofs.Common.{◌≡◌, ℕ, ◌+◌, ◌<◌, Some, None, Option, sym, ap, inl, inr, arith}
 use mathlib.Core.HLevel.{dec→stable}
 use native.Mathlib.Decide.{ℕ_discrete}
 use Rattle.std.proofs.lemmas.Bool.{cases_lt, cases_order}
@@ -11,9 +11,9 @@ use Rattle.pressing.specs.declared.judging.Verdict.{Verdict}
 use Rattle.pressing.specs.declared.judging.Verdict.TheVariants.{Atomic, Told}
 use Rattle.pressing.specs.Pressed.{Left, DraftPressed}
 use Rattle.pressing.specs.Sources.{Made}
-use Rattle.pressing.specs.Law.{code_of_entry, Agreed}
-use Rattle.pressing.specs.Law as law
-use Rattle.pressing.specs.Verdicts.{Tells, AloneTo, FirstPair, Judged, Means, FirstTold, FirstNotAtomic}
+use Rattle.pressing.specs.Press.{code_of_entry}
+use Rattle.pressing.specs.Law.{AgreedLeft}
+use Rattle.pressing.specs.Verdicts.{AloneTo, FirstPair, Judged, Means, FirstTold, FirstNotAtomic}
 use Rattle.pressing.proofs.Pressing.{pressed-atomic}
 
 -- for loops: one number more
@@ -22,7 +22,7 @@ below_more P n all one q l = elim (cases_lt q n) [ inl h ↦ all q h | inr g ↦
 
 module _ (K : KindModel) (back last : Left Colouring) (q : ℕ) where
   -- where no pair tells against q, backward states with equal columns agree at it
-  pub alone_agreed : AloneTo K back.entries back.len last.entries last.len q back.len → Agreed K back last q
+  pub alone_agreed : AloneTo K back.entries back.len last.entries last.len q back.len → AgreedLeft K back last q
   alone_agreed alone i j l k same =
       dec→stable (ℕ_discrete (code_of_entry K back.entries i q) (code_of_entry K back.entries j q))
       (λ ne. elim (cases_order i j) [
@@ -33,7 +33,7 @@ module _ (K : KindModel) (back last : Left Colouring) (q : ℕ) where
         ]
       ])
 
-  pub pair_against : (i j : ℕ) → FirstPair K back.entries back.len last.entries last.len q i j → Agreed K back last q → ⊥
+  pub pair_against : (i j : ℕ) → FirstPair K back.entries back.len last.entries last.len q i j → AgreedLeft K back last q → ⊥
   pair_against i j p agreed = p.tells.1 (agreed i j (omega (arith, p.order, p.within)) p.within p.tells.0)
 
 module _ (K : KindModel) (d : DraftModel) (ok : sign_fault d.signs ≡ None) (back last : Left Colouring) (p : DraftPressed K d ok back last) where

@@ -1,5 +1,5 @@
 -- A state of a draft is atomic exactly if the rows of the press determine its code in each column.
-use Rattle.std.proofs.Common.{◌≡◌, ℕ, ◌<◌, true, ◌↔◌, List, ◌++◌, reverse, length, get_or, None, sym, refl, ap, ◌∙◌}
+use Rattle.std.proofs.Common.{◌≡◌, ℕ, ◌<◌, true, ◌↔◌, List, ◌++◌, reverse, get_or, None, sym, refl, ap, ◌∙◌}
 use mathlib.Core.List.{reverse-reverse}
 use Rattle.std.proofs.lemmas.List.{get_or_default}
 use Rattle.kinds.specs.Kinds.{KindModel}
@@ -15,17 +15,12 @@ use Rattle.views.specs.Colourings.{plain}
 use Rattle.views.specs.DraftViews.{code_of_state, backward_draft_model}
 use Rattle.views.specs.TableViews.{backward_table_model}
 use Rattle.pressing.specs.Sources.{Made}
-use Rattle.pressing.specs.Law.{Atomic, code_of_entry}
+use Rattle.pressing.specs.Press.{Twice, Atomic, code_of_entry, Agreed}
 use Rattle.pressing.proofs.Minimal.{says, Led, built-led, code-says}
-use Rattle.pressing.proofs.Outcomes.{TwiceBuilt, Outcome, made-proper, views, draft-outcome, says-after}
-
--- columns of the backward table that no row tells apart agree at q
-abbrev pub AgreedIn : KindModel → TableModel → List Colouring → List Colouring → ℕ → Type 0
-AgreedIn K b columns rows q =
-    (i j : ℕ) → i < count b → j < count b → ((r : ℕ) → r < length rows → code_of_entry K rows r i ≡ code_of_entry K rows r j) → code_of_entry K columns i q ≡ code_of_entry K columns j q
+use Rattle.pressing.proofs.Outcomes.{Outcome, made-proper, views, draft-outcome, says-after}
 
 module _ (K : KindModel) (d : DraftModel) (ok : sign_fault d.signs ≡ None) (made : Made K d) (t : TableModel) (q : ℕ) (inside : q < size d)
-    (p : TwiceBuilt (backward_draft_model K d ok) t) where
+    (p : Twice (backward_draft_model K d ok) t) where
   out : Outcome (letters d) t (value K d)
   out = draft-outcome K d ok made t p
 
@@ -50,7 +45,7 @@ module _ (K : KindModel) (d : DraftModel) (ok : sign_fault d.signs ≡ None) (ma
       ∙ sym (leads (built_walked p.built) y.0 y.1))
       ∙ (views K d ok made).admitted_codes admitted y.0 y.1 q inside
 
-  there : Atomic K d q → AgreedIn K p.back p.columns p.rows q
+  there : Atomic K d q → Agreed K p.back p.columns p.rows q
   there atomic i j l k same =
       let y = built-led p.built i l in
       let z = built-led p.built j k in
@@ -62,7 +57,7 @@ module _ (K : KindModel) (d : DraftModel) (ok : sign_fault d.signs ≡ None) (ma
       sym (chart r i lr l (x, o, refl) y) ∙ same r (rw p.again.states lr) ∙ chart r j lr k (x, o, refl) z)
       ∙ sym (column j k z)
 
-  back : AgreedIn K p.back p.columns p.rows q → Atomic K d q
+  back : Agreed K p.back p.columns p.rows q → Atomic K d q
   back agreed u v o o' e =
       column-of u o
       ∙ agreed (at u) (at v) (inside-at u o) (inside-at v o')
@@ -87,5 +82,5 @@ module _ (K : KindModel) (d : DraftModel) (ok : sign_fault d.signs ≡ None) (ma
       chart-of : {r : ℕ} (x : Led (letters d) t r) (w : List ℕ) → Over (letters d) w → r < count t → code_of_entry K p.rows r (at w) ≡ value K d (x.0 ++ w)
       chart-of {r} x w l h = chart r (at w) h (inside-at w l) x (to w l) ∙ ap (λ s. value K d (x.0 ++ s)) (reverse-reverse w)
 
-  pub atomic_iff : Atomic K d q ↔ AgreedIn K p.back p.columns p.rows q
+  pub atomic_iff : Atomic K d q ↔ Agreed K p.back p.columns p.rows q
   atomic_iff = (there, back)

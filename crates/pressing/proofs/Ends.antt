@@ -1,5 +1,5 @@
 -- What the builds of a press come to together.
-use Rattle.std.proofs.Common.{◌≡◌, ℕ, true, false, List, length, is_err, None, Ok, Err, Result, sym, refl, ap, ◌∙◌, subst}
+use Rattle.std.proofs.Common.{◌≡◌, ℕ, true, false, List, length, is_err, None, Ok, Err, Result, sym, refl, subst}
 use Rattle.std.proofs.lemmas.Bool.{both_ways}
 use Rattle.kinds.specs.Kinds.{KindModel}
 use Rattle.automata.specs.Signs.{sign_fault}
@@ -9,13 +9,13 @@ use Rattle.machines.specs.Models.{MachineModel}
 use Rattle.tables.specs.declared.grid.Grid.{Grid}
 use Rattle.tables.specs.declared.grid.building.BuildFault.{BuildFault}
 use Rattle.tables.specs.Builds.{Accepted, Refused, Ended}
-use Rattle.tables.proofs.Filled.{wiped_of}
+use Rattle.tables.proofs.Filled.{left_wiped, wiped_of}
 use Rattle.views.specs.declared.colouring.Colouring.{Colouring}
 use Rattle.views.specs.Colourings.{plain}
 use Rattle.views.specs.ViewLaws.{DraftViewLaws}
 use Rattle.pressing.specs.declared.faults.PressFault.{PressFault}
 use Rattle.pressing.specs.declared.faults.PressFault.TheVariants.{First, Backward, Last}
-use Rattle.pressing.specs.Pressed.{Left, Holds, Empty, TooMany, reading, Twice, TwiceFails, TwiceEnded, DraftEnded, MachinePressed, MachineFails, MachineEnded, DraftSays, MachineSays}
+use Rattle.pressing.specs.Pressed.{Left, Holds, Empty, TooMany, reading, TwiceLeft, TwiceFails, TwiceEnded, DraftEnded, MachinePressed, MachineFails, MachineEnded, DraftSays, MachineSays}
 use Rattle.pressing.proofs.Left.{draft-says, machine-says}
 
 module _ {S U : Type 0} (m : MachineModel S) (d : S) (t : Grid) (es : List S) (len : ℕ) where
@@ -29,14 +29,14 @@ module _ {S U : Type 0} (m : MachineModel S) (d : S) (t : Grid) (es : List S) (l
 
 -- a machine of the kind K, whose table is built
 module _ {S : Type 0} (m : MachineModel S) (K : KindModel) (k : m.kind ≡ K) (d : S) (back : Left S) (b : Holds m d back) where
-  pub both_built : (last : Left Colouring) → Holds (reading K back.table) (plain 0) last → Twice m d back last
+  pub both_built : (last : Left Colouring) → Holds (reading K back.table) (plain 0) last → TwiceLeft m d back last
   both_built last h = record { built = b; again = subst (λ K. Holds (reading K back.table) (plain 0) last) (sym k) h }
 
   pub last_fails : (room : ℕ) (last : Left Colouring) → length back.entries ≡ room → Refused (reading K back.table) (plain 0) last.table last.entries last.len
       → TwiceFails m d room (length last.entries) Last × Empty m.signs m.kind.none (plain 0) last
   last_fails room last l r = (
     (back, b, l, subst (λ K. TooMany (reading K back.table) (length last.entries)) (sym k) r.many),
-    wiped_of m K (sign_bytes back.table.signs) (plain 0) last.table last.entries last.len b.signs k r.wiped,
+    wiped_of m K (sign_bytes back.table.signs) (plain 0) last.table last.entries last.len b.signs k (left_wiped _ _ _ _ _ r),
   )
 
 -- a press of a draft, accepted or refused
@@ -50,7 +50,7 @@ module _ {S : Type 0} (m : MachineModel S) (K : KindModel) (k : m.kind ≡ K) (d
   pub machine-ends : {U : Type 0} (r : Result U PressFault) → is_err r ≡ false → TwiceEnded (reading K first.table) (plain 0) back last r
       → MachineEnded m d first back last r × MachineSays m last.table r
   machine-ends (Ok u) e h =
-      let p : MachinePressed m d first back last = record { built = b; twice = subst (λ K. Twice (reading K first.table) (plain 0) back last) (sym k) h } in
+      let p : MachinePressed m d first back last = record { built = b; twice = subst (λ K. TwiceLeft (reading K first.table) (plain 0) back last) (sym k) h } in
       (p, λ w o. machine-says p w)
   machine-ends (Err f) e h = absurd (both_ways _ e refl)
 

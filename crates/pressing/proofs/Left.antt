@@ -1,9 +1,8 @@
 -- From what a press leaves to the tables and the states that it has built.
-use Rattle.std.proofs.Common.{◌≡◌, ℕ, ◌≤◌, List, reverse, length, get_or, take, None, sym, ap, ◌∙◌, subst, arith}
+use Rattle.std.proofs.Common.{◌≡◌, ℕ, ◌≤◌, List, reverse, length, get_or, take, None, ap, ◌∙◌, subst, arith}
 use mathlib.Core.List.{reverse-reverse}
 use mathlib.Core.HLevel.{is_prop→PathP}
 use Rattle.kinds.specs.Kinds.{KindModel}
-use Rattle.automata.specs.declared.signs.Signs.{Signs}
 use Rattle.automata.specs.Signs.{sign_fault}
 use Rattle.automata.specs.Drafts.{DraftModel, letters}
 use Rattle.automata.specs.Shown.{sign_bytes}
@@ -11,7 +10,7 @@ use Rattle.automata.proofs.FaultSet.{fault-set}
 use Rattle.drafts.specs.Words.{Over, run, value}
 use Rattle.drafts.proofs.Runs.{over-reverse}
 use Rattle.machines.specs.Models.{MachineModel, meaning}
-use Rattle.machines.specs.Tables.{TableModel, count, table_step}
+use Rattle.machines.specs.Tables.{count, table_step}
 use Rattle.machines.specs.Built.{Built}
 use Rattle.machines.proofs.Reading.{built-admitted, built-reads}
 use Rattle.tables.specs.declared.grid.Grid.{Grid}
@@ -23,8 +22,8 @@ use Rattle.views.specs.TableViews.{backward_table_model}
 use Rattle.views.specs.ViewLaws.{DraftViewLaws, TableViewLaws}
 use Rattle.views.proofs.TableReversal.{table_view_laws}
 use Rattle.views.specs.TableSays.{table_says}
-use Rattle.pressing.specs.Pressed.{Left, Holds, reading, Twice, DraftPressed, MachinePressed}
-use Rattle.pressing.proofs.Outcomes.{TwiceBuilt}
+use Rattle.pressing.specs.Pressed.{Left, Holds, reading, TwiceLeft, DraftPressed, MachinePressed}
+use Rattle.pressing.specs.Press.{Twice}
 
 pub grid_few : (t : Grid) → count (shown t) ≤ 128
 grid_few t = omega (arith, shown-count t, t.few)
@@ -34,7 +33,7 @@ pub reading_is : {S : Type 0} (m : MachineModel S) (t : Grid) → sign_bytes t.s
     → reading m.kind t ≡ backward_table_model m.kind m.signs m.acceptable (shown t)
 reading_is m t e = λ i. backward_table_model m.kind (e i) (is_prop→PathP (λ j. sign_fault (e j) ≡ None) (λ j. fault-set (sign_fault (e j)) None) (accepted t.signs) m.acceptable i) (shown t)
 
-unfoldable pub twice-built : {S : Type 0} {m : MachineModel S} {d : S} {back : Left S} {last : Left Colouring} → Twice m d back last → TwiceBuilt m (shown last.table)
+unfoldable pub twice-built : {S : Type 0} {m : MachineModel S} {d : S} {back : Left S} {last : Left Colouring} → TwiceLeft m d back last → Twice m (shown last.table)
 twice-built {S} {m} {d} {back} {last} p = record {
   back = shown back.table;
   columns = take back.len back.entries;
@@ -59,7 +58,7 @@ pub reading-says : (K : KindModel) (t : Grid) (w : List ℕ) → meaning (readin
 reading-says K t w = (views_of K t).backward w
 
 -- built backward of a table that is built from m, a table says of a word what m says of the word turned round
-pub twice-says : {S : Type 0} {m : MachineModel S} {d : S} {back : Left S} {last : Left Colouring} → Twice m d back last
+pub twice-says : {S : Type 0} {m : MachineModel S} {d : S} {back : Left S} {last : Left Colouring} → TwiceLeft m d back last
     → (w : List ℕ) → table_says m.kind last.table w ≡ meaning m (reverse w)
 twice-says {S} {m} {d} {back} {last} p w = holds-says p.again w ∙ (reading-says m.kind back.table w ∙ holds-says p.built (reverse w))
 

@@ -1,11 +1,10 @@
 -- Tables whose states are told apart by what they say, and that a table built backward of a built one is such a table.
-use Rattle.std.proofs.Common.{◌≡◌, ℕ, ◌*◌, ◌<◌, ◌≤◌, true, cond, ltb, List, [], ◌∷◌, reverse, length, get_or, None, sym, refl, ap, ◌∙◌, subst, inl, inr}
+use Rattle.std.proofs.Common.{◌≡◌, ℕ, ◌*◌, ◌<◌, ◌≤◌, true, ltb, List, [], ◌∷◌, reverse, length, get_or, sym, refl, ap, ◌∙◌, subst, inl, inr}
 use mathlib.Core.List.{reverse-reverse}
 use Rattle.std.proofs.lemmas.List.{get_or_default}
 use Rattle.std.proofs.lemmas.Bool.{cases_lt, lt-ltb, le-ltb, cond-true, cond-false}
 use Rattle.kinds.specs.Kinds.{KindModel, clean}
 use Rattle.kinds.proofs.Joins.{clean_is}
-use Rattle.automata.specs.Signs.{sign_fault}
 use Rattle.drafts.specs.Words.{Over, run}
 use Rattle.drafts.proofs.Runs.{run-reverse, over-reverse}
 use Rattle.machines.specs.Models.{MachineModel, alphabet, ends, meaning}

@@ -1,5 +1,5 @@
 -- When a machine reaches as few states as the minimal table has: words that are not told apart lead to one state.
-use Rattle.std.proofs.Common.{◌≡◌, ℕ, ◌<◌, Bool, false, ◌↔◌, List, ◌++◌, None, sym, ap, ◌∙◌, arith, ext_get_or}
+use Rattle.std.proofs.Common.{◌≡◌, ℕ, ◌<◌, false, ◌↔◌, List, ◌++◌, None, sym, ap, ◌∙◌, arith, ext_get_or}
 use Rattle.kinds.specs.Kinds.{KindModel}
 use Rattle.automata.specs.Signs.{sign_fault}
 use Rattle.automata.specs.Sets.{has}
@@ -19,7 +19,7 @@ use Rattle.views.specs.declared.states.Reached.{Reached}
 use Rattle.views.specs.Those.{reached_set}
 use Rattle.views.specs.DraftViews.{forward_draft_model}
 use Rattle.pressing.specs.Sources.{Made}
-use Rattle.pressing.specs.Law.{Residual}
+use Rattle.pressing.specs.Press.{Residual}
 use Rattle.pressing.proofs.Minimal.{built-led}
 use Rattle.pressing.proofs.Outcomes.{Outcome, views, words, one_state, state_one, futures, spread}
 

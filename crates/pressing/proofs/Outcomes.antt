@@ -1,5 +1,5 @@
 -- What a press comes to: a minimal table that says what its source says. Minimal tables that say the same are equal.
-use Rattle.std.proofs.Common.{◌≡◌, ℕ, ◌<◌, ◌≤◌, ◌↔◌, List, [], ◌∷◌, ◌++◌, reverse, length, get_or, None, sym, ap, ◌∙◌, subst, arith}
+use Rattle.std.proofs.Common.{◌≡◌, ℕ, ◌<◌, ◌↔◌, List, [], ◌∷◌, ◌++◌, reverse, length, get_or, None, sym, ap, ◌∙◌, subst, arith}
 use mathlib.Core.List.{reverse-reverse}
 use Rattle.kinds.specs.Kinds.{KindModel}
 use Rattle.automata.specs.Signs.{sign_fault}
@@ -10,38 +10,21 @@ use Rattle.drafts.proofs.Runs.{run-append, over-append, over-reverse}
 use Rattle.drafts.proofs.ListLaws.{call_laws_lem}
 use Rattle.machines.specs.Models.{MachineModel, alphabet, ends, meaning, Spread}
 use Rattle.machines.specs.Tables.{TableModel, count, next}
-use Rattle.machines.specs.Built.{Built}
 use Rattle.machines.proofs.Walks.{walk_inside}
 use Rattle.machines.proofs.Spreads.{choose}
 use Rattle.machines.proofs.Lockstep.{Tied, tied_table}
-use Rattle.views.specs.declared.colouring.Colouring.{Colouring}
 use Rattle.views.specs.DraftViews.{backward_draft_model}
-use Rattle.views.specs.TableViews.{backward_table_model}
 use Rattle.views.specs.ViewLaws.{DraftViewLaws}
 use Rattle.views.proofs.DraftReversal.{draft_view_laws}
 use Rattle.pressing.specs.Sources.{Made, Source, draft, machine, signs_of, value_of}
+use Rattle.pressing.specs.Press.{Twice, Pressed}
 use Rattle.pressing.proofs.Minimal.{says, Led, Minimal, back-meaning, back-minimal, back-says}
-
--- A table of at most 128 states is built from m, and t from that table read backward.
-pub record TwiceBuilt {S : Type 0} (m : MachineModel S) (t : TableModel) : Type 0 where
-  pub back : TableModel
-  pub columns : List S
-  pub rows : List Colouring
-  pub few : count back ≤ 128
-  pub built : Built m back columns
-  pub again : Built (backward_table_model m.kind m.signs m.acceptable back) t rows
-
--- A draft is read backward twice; a machine is first built, and its table read backward twice.
-abbrev pub PressedTo : {K : KindModel} {S : Type 0} → Source K S → TableModel → Type 0
-PressedTo {K} (draft d ok made) t = TwiceBuilt (backward_draft_model K d ok) t
-PressedTo {S = S} (machine m) t =
-    (a : TableModel) × (xs : List S) × (count a ≤ 128) × Built m a xs × TwiceBuilt (backward_table_model m.kind m.signs m.acceptable a) t
 
 pub record Outcome (n : ℕ) (t : TableModel) (f : List ℕ → ℕ) : Type 0 where
   pub minimal : Minimal n t
   pub reads : (w : List ℕ) → Over n w → says n t 0 w ≡ f w
 
-pub twice-outcome : {S : Type 0} {m : MachineModel S} {t : TableModel} (f : List ℕ → ℕ) → TwiceBuilt m t
+pub twice-outcome : {S : Type 0} {m : MachineModel S} {t : TableModel} (f : List ℕ → ℕ) → Twice m t
     → ((w : List ℕ) → Over (alphabet m) w → f w ≡ meaning m (reverse w)) → Outcome (alphabet m) t f
 twice-outcome f p dual = record { minimal = back-minimal p.built p.few p.again; reads = λ w o. back-says p.built p.few p.again w o ∙ sym (dual w o) }
 
@@ -56,10 +39,10 @@ module _ (K : KindModel) (d : DraftModel) (ok : sign_fault d.signs ≡ None) (ma
   draft-dual : (w : List ℕ) → Over (letters d) w → value K d w ≡ meaning (backward_draft_model K d ok) (reverse w)
   draft-dual w o = ap (value K d) (sym (reverse-reverse w)) ∙ sym (views.backward (reverse w) (over-reverse (letters d) w o))
 
-  pub draft-outcome : (t : TableModel) → TwiceBuilt (backward_draft_model K d ok) t → Outcome (letters d) t (value K d)
+  pub draft-outcome : (t : TableModel) → Twice (backward_draft_model K d ok) t → Outcome (letters d) t (value K d)
   draft-outcome t p = twice-outcome (value K d) p draft-dual
 
-pub outcome : {S : Type 0} (K : KindModel) (s : Source K S) (t : TableModel) → PressedTo s t → Outcome (length (signs_of s)) t (value_of s)
+pub outcome : {S : Type 0} (K : KindModel) (s : Source K S) (t : TableModel) → Pressed s t → Outcome (length (signs_of s)) t (value_of s)
 outcome K (draft d ok made) t p = draft-outcome K d ok made t p
 outcome K (machine m) t p = twice-outcome (meaning m) p.4 (λ w o. sym (back-meaning p.3 p.2 w o))
 

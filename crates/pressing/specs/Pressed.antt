@@ -46,7 +46,7 @@ abbrev pub reading : KindModel → Grid → MachineModel Colouring
 reading K t = backward_table_model K (sign_bytes t.signs) (accepted t.signs) (shown t)
 
 -- m is built, and its table, read backward, is built again
-pub record Twice {S : Type 0} (m : MachineModel S) (d : S) (back : Left S) (last : Left Colouring) : Type 0 where
+pub record TwiceLeft {S : Type 0} (m : MachineModel S) (d : S) (back : Left S) (last : Left Colouring) : Type 0 where
   pub built : Holds m d back
   pub again : Holds (reading m.kind back.table) (plain 0) last
 
@@ -57,13 +57,13 @@ TwiceFails m d room room' Backward = TooMany m room
 TwiceFails {S} m d room room' Last = (back : Left S) × Holds m d back × (length back.entries ≡ room) × TooMany (reading m.kind back.table) room'
 
 abbrev pub TwiceEnded : {S U : Type 0} → MachineModel S → S → Left S → Left Colouring → Result U PressFault → Type 0
-TwiceEnded m d back last (Ok u) = Twice m d back last
+TwiceEnded m d back last (Ok u) = TwiceLeft m d back last
 TwiceEnded m d back last (Err e) =
     TwiceFails m d (length back.entries) (length last.entries) e × Empty m.signs m.kind.none d back × Empty m.signs m.kind.none (plain 0) last
 
 -- A draft is pressed: it is built as it is read backward, and the table of that is built as it is read backward.
 abbrev pub DraftPressed : (K : KindModel) (d : DraftModel) → sign_fault d.signs ≡ None → Left Colouring → Left Colouring → Type 0
-DraftPressed K d ok back last = Twice (backward_draft_model K d ok) (plain 0) back last
+DraftPressed K d ok back last = TwiceLeft (backward_draft_model K d ok) (plain 0) back last
 
 abbrev pub DraftEnded : {U : Type 0} → (K : KindModel) (d : DraftModel) → sign_fault d.signs ≡ None → Left Colouring → Left Colouring → Result U PressFault → Type 0
 DraftEnded K d ok back last r = TwiceEnded (backward_draft_model K d ok) (plain 0) back last r
@@ -71,7 +71,7 @@ DraftEnded K d ok back last r = TwiceEnded (backward_draft_model K d ok) (plain 
 -- A machine is pressed: it is built, and so is its table as it is read backward, twice.
 pub record MachinePressed {S : Type 0} (m : MachineModel S) (d : S) (first : Left S) (back last : Left Colouring) : Type 0 where
   pub built : Holds m d first
-  pub twice : Twice (reading m.kind first.table) (plain 0) back last
+  pub twice : TwiceLeft (reading m.kind first.table) (plain 0) back last
 
 abbrev pub MachineFails : {S : Type 0} → MachineModel S → S → ℕ → ℕ → ℕ → PressFault → Type 0
 MachineFails m d room room' room'' First = TooMany m room

@@ -26,6 +26,10 @@ abbrev pub signs_of : {K : KindModel} {S : Type 0} → Source K S → List ℕ
 signs_of (draft d ok made) = d.signs
 signs_of (machine m) = m.signs
 
+abbrev pub acceptable_of : {K : KindModel} {S : Type 0} → (s : Source K S) → sign_fault (signs_of s) ≡ None
+acceptable_of (draft d ok made) = ok
+acceptable_of (machine m) = m.acceptable
+
 -- a word over the letters of the source
 abbrev pub WordOf : {K : KindModel} {S : Type 0} → Source K S → List ℕ → Type 0
 WordOf s w = Over (length (signs_of s)) w

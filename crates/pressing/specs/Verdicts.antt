@@ -11,7 +11,7 @@ use Rattle.pressing.specs.declared.judging.Verdict.{Verdict}
 use Rattle.pressing.specs.declared.judging.Verdict.TheVariants.{Atomic, Told}
 use Rattle.pressing.specs.Pressed.{press_fault_number, Left, Empty, DraftPressed, DraftEnded}
 use Rattle.pressing.specs.Sources.{Made}
-use Rattle.pressing.specs.Law as law
+use Rattle.pressing.specs.Press as law
 
 abbrev pub verdict_fault_number : VerdictFault → ℕ
 verdict_fault_number NoState = 3

@@ -1,6 +1,6 @@
 // Which states of a draft are atomic, from what a press leaves.
 ghost use Rattle.std.specs.Prelude.{◌≡◌, ◌<◌, Decides};
-ghost use Rattle.pressing.specs.Law.{code_of_entry};
+ghost use Rattle.pressing.specs.Press.{code_of_entry};
 ghost use Rattle.pressing.specs.Verdicts.{SameColumn, Tells, Judged, FirstTold};
 
 use kinds::kind::Kind;
@@ -18,7 +18,7 @@ pub enum Verdict {
 // The code at a place of entry i of a roll.
 fn code_in<K: Kind>(roll: &Roll<'_, Colouring>, i: usize, place: usize) -> u8
     requires { i < roll.now.len }
-    ensures { result ≡ code_of_entry model roll.now.entries.now i place }
+    ensures { result ≡ code_of_entry K.model roll.now.entries.now i place }
 {
     match roll.get(i) {
         Some(colouring) => colouring.code::<K>(place),
@@ -28,7 +28,7 @@ fn code_in<K: Kind>(roll: &Roll<'_, Colouring>, i: usize, place: usize) -> u8
 
 // Whether two columns of the chart are equal.
 fn same_column<K: Kind>(chart: &Roll<'_, Colouring>, low: usize, high: usize) -> bool
-    ensures { Decides result (SameColumn model chart.now.entries.now chart.now.len low high) }
+    ensures { Decides result (SameColumn K.model chart.now.entries.now chart.now.len low high) }
 {
     for row in 0..chart.len() {
         if code_in::<K>(chart, row, low) != code_in::<K>(chart, row, high) {
@@ -48,7 +48,7 @@ fn tells<K: Kind>(
 ) -> bool
     requires low { low < columns.now.len }
     requires high { high < columns.now.len }
-    ensures { Decides result (Tells model columns.now.entries.now chart.now.entries.now chart.now.len state low high) }
+    ensures { Decides result (Tells K.model columns.now.entries.now chart.now.entries.now chart.now.len state low high) }
 {
     code_in::<K>(columns, low, state) != code_in::<K>(columns, high, state)
         && same_column::<K>(chart, low, high)
@@ -61,7 +61,7 @@ pub fn judge<K: Kind>(
     chart: &Roll<'_, Colouring>,
     state: usize,
 ) -> Verdict
-    ensures { Judged model columns.now.entries.now columns.now.len chart.now.entries.now chart.now.len state result }
+    ensures { Judged K.model columns.now.entries.now columns.now.len chart.now.entries.now chart.now.len state result }
 {
     let count = columns.len();
     let mut verdict = Verdict::Atomic;
@@ -82,7 +82,7 @@ pub fn first_told<K: Kind>(
     chart: &Roll<'_, Colouring>,
     count: usize,
 ) -> Option<usize>
-    ensures { FirstTold model columns.now.entries.now columns.now.len chart.now.entries.now chart.now.len count result }
+    ensures { FirstTold K.model columns.now.entries.now columns.now.len chart.now.entries.now chart.now.len count result }
 {
     for state in 0..count {
         match judge::<K>(columns, chart, state) {

@@ -23,7 +23,7 @@ pub fn once<K: Kind>(
 ) -> Result<(), BuildFault>
     ensures loan { roll.new.entries.ghost_name ≡ roll.old.entries.ghost_name }
     ensures long { length roll.new.entries.now ≡ length roll.old.entries.now }
-    ensures ended { Ended (forward_draft_model model (drawn draft.now) (accepted draft.now.automaton.signs)) (reached_set no_states) table.new.grid roll.new.entries.now roll.new.len result }
+    ensures ended { Ended (forward_draft_model K.model (drawn draft.now) (accepted draft.now.automaton.signs)) (reached_set no_states) table.new.grid roll.new.entries.now roll.new.len result }
 {
     build(&ForwardDraft { draft }, table, roll)
 }

@@ -28,7 +28,7 @@ fn build_twice<M: Machine>(
     ensures roll_long { length roll.new.entries.now ≡ length roll.old.entries.now }
     ensures chart_loan { chart.new.entries.ghost_name ≡ chart.old.entries.ghost_name }
     ensures chart_long { length chart.new.entries.now ≡ length chart.old.entries.now }
-    ensures ended { TwiceEnded (meaning machine.now) M.State.State.blank (record { table = table.exit.now.grid; entries = roll.new.entries.now; len = roll.new.len }) (record { table = last.new.grid; entries = chart.new.entries.now; len = chart.new.len }) result }
+    ensures ended { TwiceEnded (M.meaning machine.now) M.State.State.blank (record { table = table.exit.now.grid; entries = roll.new.entries.now; len = roll.new.len }) (record { table = last.new.grid; entries = chart.new.entries.now; len = chart.new.len }) result }
 {
     let signs = machine.signs();
     if build(machine, table, roll).is_err() {
@@ -57,8 +57,8 @@ pub fn press_draft<K: Kind>(
     ensures columns_long { length columns.new.entries.now ≡ length columns.old.entries.now }
     ensures chart_loan { chart.new.entries.ghost_name ≡ chart.old.entries.ghost_name }
     ensures chart_long { length chart.new.entries.now ≡ length chart.old.entries.now }
-    ensures ended { DraftEnded model (drawn draft.now) (accepted draft.now.automaton.signs) (record { table = back.new.grid; entries = columns.new.entries.now; len = columns.new.len }) (record { table = last.new.grid; entries = chart.new.entries.now; len = chart.new.len }) result }
-    ensures says { DraftSays model (drawn draft.now) last.new.grid result }
+    ensures ended { DraftEnded K.model (drawn draft.now) (accepted draft.now.automaton.signs) (record { table = back.new.grid; entries = columns.new.entries.now; len = columns.new.len }) (record { table = last.new.grid; entries = chart.new.entries.now; len = chart.new.len }) result }
+    ensures says { DraftSays K.model (drawn draft.now) last.new.grid result }
 {
     build_twice(&BackwardDraft { draft }, back, columns, last, chart)
 }
@@ -80,8 +80,8 @@ pub fn press_machine<M: Machine>(
     ensures columns_long { length columns.new.entries.now ≡ length columns.old.entries.now }
     ensures chart_loan { chart.new.entries.ghost_name ≡ chart.old.entries.ghost_name }
     ensures chart_long { length chart.new.entries.now ≡ length chart.old.entries.now }
-    ensures ended { MachineEnded (meaning machine.now) M.State.State.blank (record { table = first.new.grid; entries = states.new.entries.now; len = states.new.len }) (record { table = back.new.grid; entries = columns.new.entries.now; len = columns.new.len }) (record { table = last.new.grid; entries = chart.new.entries.now; len = chart.new.len }) result }
-    ensures says { MachineSays (meaning machine.now) last.new.grid result }
+    ensures ended { MachineEnded (M.meaning machine.now) M.State.State.blank (record { table = first.new.grid; entries = states.new.entries.now; len = states.new.len }) (record { table = back.new.grid; entries = columns.new.entries.now; len = columns.new.len }) (record { table = last.new.grid; entries = chart.new.entries.now; len = chart.new.len }) result }
+    ensures says { MachineSays (M.meaning machine.now) last.new.grid result }
 {
     let signs = machine.signs();
     if build(machine, first, states).is_err() {

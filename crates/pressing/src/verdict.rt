@@ -28,8 +28,8 @@ pub fn verdict<K: Kind>(
     ensures columns_long { length columns.new.entries.now ≡ length columns.old.entries.now }
     ensures chart_loan { chart.new.entries.ghost_name ≡ chart.old.entries.ghost_name }
     ensures chart_long { length chart.new.entries.now ≡ length chart.old.entries.now }
-    ensures ended { VerdictEnded model (drawn draft.now) (accepted draft.now.automaton.signs) state (record { table = back.new.grid; entries = columns.new.entries.now; len = columns.new.len }) (record { table = last.new.grid; entries = chart.new.entries.now; len = chart.new.len }) result }
-    ensures means { VerdictMeans model (drawn draft.now) state result }
+    ensures ended { VerdictEnded K.model (drawn draft.now) (accepted draft.now.automaton.signs) state (record { table = back.new.grid; entries = columns.new.entries.now; len = columns.new.len }) (record { table = last.new.grid; entries = chart.new.entries.now; len = chart.new.len }) result }
+    ensures means { VerdictMeans K.model (drawn draft.now) state result }
 {
     let automaton = draft.automaton();
     if state >= automaton.state_count() {

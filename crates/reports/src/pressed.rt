@@ -2,7 +2,7 @@
 ghost use Rattle.std.specs.Prelude.{◌≡◌, length, IfOk};
 ghost use Rattle.drafts.specs.Drawn.{drawn};
 ghost use Rattle.views.specs.Accepted.{accepted};
-ghost use Rattle.texts.specs.Any.{letter_of_byte, model_of};
+ghost use Rattle.texts.specs.Any.{letter_of_draft, model_of};
 ghost use Rattle.texts.specs.Grammar.{kind_of};
 ghost use Rattle.reports.specs.Reports.{OnceCount, DraftPrints, Prints};
 
@@ -98,7 +98,7 @@ pub fn press_text<K: Kind>(
 
 // The same of a draft of a kind that has a letter.
 pub fn press_any(heap: Global, draft: &AnyDraft) -> Result<Vec<u8>, AllocError>
-    ensures { IfOk result (λ v. DraftPrints (kind_of (letter_of_byte draft.now)) (letter_of_byte draft.now) (model_of draft.now) 128 v.items) }
+    ensures { IfOk result (λ v. DraftPrints (kind_of (letter_of_draft draft.now)) (letter_of_draft draft.now) (model_of draft.now) 128 v.items) }
 {
     match draft {
         AnyDraft::OfY(draft) => press_text(heap, KindLetter::Y, draft),

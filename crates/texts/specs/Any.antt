@@ -7,10 +7,10 @@ use Rattle.texts.specs.declared.letters.KindLetter.TheVariants.{Y, R, M}
 use Rattle.texts.specs.declared.any.AnyDraft.{AnyDraft}
 use Rattle.texts.specs.declared.any.AnyDraft.TheVariants.{OfY, OfR, OfM}
 
-abbrev pub letter_of_byte : AnyDraft → KindLetter
-letter_of_byte (OfY d) = Y
-letter_of_byte (OfR d) = R
-letter_of_byte (OfM d) = M
+abbrev pub letter_of_draft : AnyDraft → KindLetter
+letter_of_draft (OfY d) = Y
+letter_of_draft (OfR d) = R
+letter_of_draft (OfM d) = M
 
 abbrev pub held_by : AnyDraft → Automaton
 held_by (OfY d) = d.automaton

@@ -10,7 +10,7 @@ use Rattle.texts.specs.declared.letters.KindLetter.{KindLetter}
 use Rattle.texts.specs.declared.faults.LineFault.{LineFault}
 use Rattle.texts.specs.declared.faults.TextFault.{TextFault}
 use Rattle.texts.specs.declared.any.AnyDraft.{AnyDraft}
-use Rattle.texts.specs.Any.{letter_of_byte, model_of}
+use Rattle.texts.specs.Any.{letter_of_draft, model_of}
 use Rattle.texts.specs.Grammar.{kind_of}
 use Rattle.texts.specs.Reading.{head_of_line, draft_after_line, draft_after_lines, as_drawn, read_text, lines_in}
 
@@ -31,10 +31,10 @@ LinesRead M d text (Err x) = draft_after_lines M 2 d (lines_in text) ≡ Err x
 
 -- the same, with the kind that the first line names
 abbrev pub RestRead : KindLetter → List ℕ → List ℕ → Result AnyDraft TextFault → Type 0
-RestRead k signs text (Ok d) = as_drawn k (draft_after_lines (kind_of k) 2 (fresh signs) (lines_in text)) ≡ Ok (letter_of_byte d, model_of d)
+RestRead k signs text (Ok d) = as_drawn k (draft_after_lines (kind_of k) 2 (fresh signs) (lines_in text)) ≡ Ok (letter_of_draft d, model_of d)
 RestRead k signs text (Err e) = as_drawn k (draft_after_lines (kind_of k) 2 (fresh signs) (lines_in text)) ≡ Err e
 
 -- a whole text
 abbrev pub DraftRead : List ℕ → Result AnyDraft TextFault → Type 0
-DraftRead text (Ok d) = read_text text ≡ Ok (letter_of_byte d, model_of d)
+DraftRead text (Ok d) = read_text text ≡ Ok (letter_of_draft d, model_of d)
 DraftRead text (Err e) = read_text text ≡ Err e

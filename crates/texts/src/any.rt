@@ -1,5 +1,5 @@
 ghost use Rattle.std.specs.Prelude.{◌≡◌};
-ghost use Rattle.texts.specs.Any.{letter_of_byte, held_by};
+ghost use Rattle.texts.specs.Any.{letter_of_draft, held_by};
 
 use crate::letters::KindLetter;
 use automata::automaton::Automaton;
@@ -18,7 +18,7 @@ pub enum AnyDraft {
 
 impl AnyDraft {
     pub fn letter(&self) -> KindLetter
-        ensures { result ≡ letter_of_byte self.now }
+        ensures { result ≡ letter_of_draft self.now }
     {
         match self {
             AnyDraft::OfY(_) => KindLetter::Y,

@@ -1,6 +1,6 @@
 // A draft text put into the one order in which drafts are written.
 ghost use Rattle.std.specs.Prelude.{◌≡◌, IfOk};
-ghost use Rattle.texts.specs.Any.{letter_of_byte, model_of};
+ghost use Rattle.texts.specs.Any.{letter_of_draft, model_of};
 ghost use Rattle.texts.specs.Grammar.{written};
 ghost use Rattle.texts.specs.Tidying.{tidy_of};
 ghost use Rattle.texts.specs.Writing.{refusal_line};
@@ -13,7 +13,7 @@ use std::alloc::{AllocError, Global};
 
 // The text of a draft, in memory of its own.
 pub fn draft_text(heap: Global, draft: &AnyDraft) -> Result<Vec<u8>, AllocError>
-    ensures { IfOk result (λ v. v.items ≡ written (letter_of_byte draft.now) (model_of draft.now)) }
+    ensures { IfOk result (λ v. v.items ≡ written (letter_of_draft draft.now) (model_of draft.now)) }
 {
     let mut text = vec![in heap; 0u8; draft_len(draft)]?;
     let _ = write_draft(draft, text.as_mut_slice());

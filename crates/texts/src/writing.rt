@@ -3,7 +3,7 @@ ghost use Rattle.fields.specs.Writing.{Puts};
 ghost use Rattle.automata.specs.Drafts.{size, letters};
 ghost use Rattle.drafts.specs.Canonical.{grow_calls, enter_calls, link_calls};
 ghost use Rattle.automata.specs.Shown.{shown};
-ghost use Rattle.texts.specs.Any.{letter_of_byte, model_of};
+ghost use Rattle.texts.specs.Any.{letter_of_draft, model_of};
 ghost use Rattle.texts.specs.Grammar.{head_fields, written};
 ghost use Rattle.texts.specs.TextLaws.{ReadsBack};
 ghost use Rattle.texts.specs.Writing.{write_fault_number, ended_line, call_lines, grow_call, enter_call, link_call, links_by, links_from, refusal_line, Wrote};
@@ -167,7 +167,7 @@ fn put_arrows(automaton: &Automaton, out: &mut [u8], at: usize) -> usize
 
 // Puts the text of a draft.
 fn put_draft(draft: &AnyDraft, out: &mut [u8], at: usize) -> usize
-    ensures { Puts out.old out.new at result (written (letter_of_byte draft.now) (model_of draft.now)) }
+    ensures { Puts out.old out.new at result (written (letter_of_draft draft.now) (model_of draft.now)) }
 {
     let automaton = draft.automaton();
     let at = put_head(draft.letter(), automaton.signs(), out, at);
@@ -178,7 +178,7 @@ fn put_draft(draft: &AnyDraft, out: &mut [u8], at: usize) -> usize
 
 // How many bytes the text of a draft has.
 pub fn draft_len(draft: &AnyDraft) -> usize
-    ensures { result ≡ length (written (letter_of_byte draft.now) (model_of draft.now)) }
+    ensures { result ≡ length (written (letter_of_draft draft.now) (model_of draft.now)) }
 {
     put_draft(draft, &mut [], 0)
 }
@@ -186,8 +186,8 @@ pub fn draft_len(draft: &AnyDraft) -> usize
 // Writes the text of a draft to the front of `out` and answers its length.
 // Where `out` is too short, nothing is written.
 pub fn write_draft(draft: &AnyDraft, out: &mut [u8]) -> Result<usize, WriteFault>
-    ensures wrote { Wrote (written (letter_of_byte draft.now) (model_of draft.now)) out.old out.new result }
-    ensures back { ReadsBack (letter_of_byte draft.now) (model_of draft.now) }
+    ensures wrote { Wrote (written (letter_of_draft draft.now) (model_of draft.now)) out.old out.new result }
+    ensures back { ReadsBack (letter_of_draft draft.now) (model_of draft.now) }
 {
     if draft_len(draft) > out.len() {
         return Err(WriteFault::NoRoom);

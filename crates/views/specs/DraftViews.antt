@@ -2,7 +2,7 @@
 use Rattle.std.specs.Prelude.{◌≡◌, ℕ, Bool, cond, ◌&&◌, get_or, None, slice_index_or}
 use Rattle.std.proofs.lemmas.Bool.{le-ltb, cond-false}
 use Rattle.kinds.specs.Kinds.{KindModel, join_all}
-use Rattle.kinds.proofs.Joins.{join_all-admitted}
+use Rattle.kinds.proofs.Joins.{join_all_admitted}
 use Rattle.automata.specs.declared.sets.StateSet.{StateSet}
 use Rattle.automata.specs.Sets.{has}
 use Rattle.automata.specs.Signs.{sign_fault}
@@ -40,7 +40,7 @@ forward_draft_model K d ok = record {
   value = λ s. join_over K (size d) (has s.set) (code_of_state K d);
   acceptable = ok;
   idle = λ s a l. cond-false (is_letter d a) _ s (le-ltb a (letters d) l);
-  admitted = λ s. join_all-admitted K (tabulate (size d) (λ p. cond (has s.set p) (code_of_state K d p) K.none));
+  admitted = λ s. join_all_admitted K (tabulate (size d) (λ p. cond (has s.set p) (code_of_state K d p) K.none));
 }
 
 -- each state takes the join of the codes of the ends of its arrows of the letter a
@@ -60,5 +60,5 @@ backward_draft_model K d ok = record {
   value = λ s. join_over K (size d) d.entry (λ p. get_or s.codes p K.none);
   acceptable = ok;
   idle = λ s a l. cond-false (is_letter d a) _ s (le-ltb a (letters d) l);
-  admitted = λ s. join_all-admitted K (tabulate (size d) (λ p. cond (d.entry p) (slice_index_or s.codes p K.none) K.none));
+  admitted = λ s. join_all_admitted K (tabulate (size d) (λ p. cond (d.entry p) (slice_index_or s.codes p K.none) K.none));
 }

@@ -2,7 +2,7 @@
 use Rattle.std.specs.Prelude.{◌≡◌, ℕ, cond, List, length, None, nat_lt, slice_index_or}
 use Rattle.std.proofs.lemmas.Bool.{le-ltb, cond-false}
 use Rattle.kinds.specs.Kinds.{KindModel, clean}
-use Rattle.kinds.proofs.Joins.{clean-admitted}
+use Rattle.kinds.proofs.Joins.{clean_admitted}
 use Rattle.automata.specs.Signs.{sign_fault}
 use Rattle.machines.specs.Models.{MachineModel}
 use Rattle.machines.specs.Tables.{TableModel, count, table_step}
@@ -24,7 +24,7 @@ table_view K signs ok t = record {
   value = λ i. clean K (value_of_state K t i);
   acceptable = ok;
   idle = table-idle (length signs) t;
-  admitted = λ i. clean-admitted K (value_of_state K t i);
+  admitted = λ i. clean_admitted K (value_of_state K t i);
 }
 
 -- the code of the state to which the letter a leads from p
@@ -45,5 +45,5 @@ backward_table_model K signs ok t = record {
   value = λ s. clean K (slice_index_or s.codes 0 K.none);
   acceptable = ok;
   idle = λ s a l. cond-false (nat_lt a (length signs)) _ s (le-ltb a (length signs) l);
-  admitted = λ s. clean-admitted K (slice_index_or s.codes 0 K.none);
+  admitted = λ s. clean_admitted K (slice_index_or s.codes 0 K.none);
 }

@@ -1,5 +1,5 @@
 use Rattle.std.proofs.Common.{◌≡◌, ℕ, ◌<◌}
-use Rattle.pressing.specs.Law.{code_of_entry}
+use Rattle.pressing.specs.Press.{code_of_entry}
 use Rattle.pressing.proofs.judging.same_column.Given as goal
 
 -- the columns agree in the rows passed

@@ -13,10 +13,10 @@ returns g c =
     let ok = accepted d.automaton.signs in
     let laws = draft_view_laws g.K.Kind.model (drawn d) (omega (arith, shown-size d.automaton, d.automaton.few)) ok in
     record {
-      columns-loan = e.roll_loan;
-      columns-long = e.roll_long;
-      chart-loan = e.chart_loan;
-      chart-long = e.chart_long;
+      columns_loan = e.roll_loan;
+      columns_long = e.roll_long;
+      chart_loan = e.chart_loan;
+      chart_long = e.chart_long;
       ended = e.ended;
       says = draft-ends g.K.Kind.model (drawn d) ok laws _ _ c.build_twice.result e.ended;
     }

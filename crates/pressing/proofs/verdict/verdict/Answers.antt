@@ -1,4 +1,4 @@
-use Rattle.std.proofs.Common.{◌≡◌, ◌<◌, ap, ◌∙◌, arith}
+use Rattle.std.proofs.Common.{◌<◌, ap, ◌∙◌, arith}
 use Rattle.automata.specs.declared.automaton.Automaton.{Automaton}
 use Rattle.automata.specs.Drafts.{size}
 use Rattle.automata.specs.Shown.{shown}
@@ -14,10 +14,10 @@ returns g c =
     let n = c.state_count.ensures ∙ ap (λ (a : Automaton). size (shown a)) c.automaton-automaton.ensures in
     let inside : c.args.state < size (drawn d) = omega (arith, n, c.if-state-state_count.false) in
     record {
-      columns-loan = c.press_draft.ensures.columns_loan;
-      columns-long = c.press_draft.ensures.columns_long;
-      chart-loan = c.press_draft.ensures.chart_loan;
-      chart-long = c.press_draft.ensures.chart_long;
+      columns_loan = c.press_draft.ensures.columns_loan;
+      columns_long = c.press_draft.ensures.columns_long;
+      chart_loan = c.press_draft.ensures.chart_loan;
+      chart_long = c.press_draft.ensures.chart_long;
       ended = (inside, q.ended, c.judge.ensures);
       means = verdict_means g.K.Kind.model (drawn d) (accepted d.automaton.signs) _ _ q.ended c.args.state inside c.judge.result c.judge.ensures;
     }
