@@ -29,7 +29,7 @@ const ROOM: usize = 128;
 
 // How many states the one-way build of a draft has, where these entries have room for it.
 fn once_count<K: Kind>(draft: &Draft<K>, sets: &mut [Reached]) -> Option<usize>
-    ensures { OnceCount K.Kind.model (drawn draft.now) (accepted draft.now.automaton.signs) (length sets.old) result }
+    ensures { OnceCount K.model (drawn draft.now) (accepted draft.now.automaton.signs) (length sets.old) result }
 {
     let mut table = Table::<K>::blank(draft.automaton().sign_list());
     let mut roll = Roll::fresh(sets);
@@ -50,7 +50,7 @@ fn press_in<K: Kind>(
 ) -> Result<Vec<u8>, AllocError>
     requires columns { length columns.old ≡ length sets.old }
     requires chart { length chart.old ≡ length sets.old }
-    ensures { IfOk result (λ v. DraftPrints K.Kind.model letter (drawn draft.now) (length sets.old) v.items) }
+    ensures { IfOk result (λ v. DraftPrints K.model letter (drawn draft.now) (length sets.old) v.items) }
 {
     let automaton = draft.automaton();
     let signs = automaton.sign_list();
@@ -81,7 +81,7 @@ pub fn press_text<K: Kind>(
     letter: KindLetter,
     draft: &Draft<K>,
 ) -> Result<Vec<u8>, AllocError>
-    ensures { IfOk result (λ v. DraftPrints K.Kind.model letter (drawn draft.now) 128 v.items) }
+    ensures { IfOk result (λ v. DraftPrints K.model letter (drawn draft.now) 128 v.items) }
 {
     let mut columns = vec![in heap; Colouring::plain(0); ROOM]?;
     let mut chart = vec![in heap; Colouring::plain(0); ROOM]?;

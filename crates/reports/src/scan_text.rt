@@ -64,7 +64,7 @@ pub fn add_scan<K: Kind>(
     table: &Table<K>,
     entry: &[u8],
 ) -> Result<(), AllocError>
-    ensures { ScanAdds model table.now.grid entry.entry out.old.items out.new.items result }
+    ensures { ScanAdds K.model table.now.grid entry.entry out.old.items out.new.items result }
 {
     add_value(out, value(table, entry))?;
     out.extend_from_slice(b"\t")?;
