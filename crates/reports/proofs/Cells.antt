@@ -1,5 +1,5 @@
 -- What is read of a cell that there is.
-use Rattle.std.proofs.Common.{◌≡◌, ℕ, ◌<◌, cond, ◌&&◌, ltb, length, get_or, Some, None, Option, unwrap_or, ap, ◌∙◌}
+use Rattle.std.proofs.Common.{◌≡◌, ℕ, ◌<◌, cond, ◌&&◌, ltb, get_or, Some, None, Option, unwrap_or, ap, ◌∙◌}
 use Rattle.std.proofs.lemmas.Bool.{lt-ltb, and_from, cond-true}
 use Rattle.machines.specs.Tables.{TableModel, count, next}
 

@@ -1,5 +1,5 @@
 -- What is printed of a draft, from what a press leaves.
-use Rattle.std.proofs.Common.{◌≡◌, ℕ, List, length, IfOk, None, Ok, Result, sym, ap, ◌∙◌, subst}
+use Rattle.std.proofs.Common.{◌≡◌, ℕ, List, length, IfOk, None, Ok, Result, sym, ap, ◌∙◌}
 use Rattle.kinds.specs.Kinds.{KindModel}
 use Rattle.automata.specs.Signs.{sign_fault}
 use Rattle.automata.specs.Drafts.{DraftModel, fresh}

@@ -1,4 +1,4 @@
-use Rattle.std.proofs.Common.{◌≡◌, length, ap, ◌∙◌}
+use Rattle.std.proofs.Common.{length, ap, ◌∙◌}
 use lib.ListN.{length-replicate}
 use Rattle.automata.specs.Sets.{no_states}
 use Rattle.tables.specs.declared.grid.Grid.{Grid}

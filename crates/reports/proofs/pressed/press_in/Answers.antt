@@ -1,4 +1,4 @@
-use Rattle.std.proofs.Common.{◌≡◌, ℕ, List, length, Ok, Err, vec_items, sym, ap, ◌∙◌, subst, arith}
+use Rattle.std.proofs.Common.{◌≡◌, ℕ, length, Ok, Err, vec_items, ap, ◌∙◌, subst}
 use lib.ListN.{length-replicate}
 use Rattle.automata.specs.declared.automaton.Automaton.{Automaton}
 use Rattle.automata.specs.Drafts.{size}

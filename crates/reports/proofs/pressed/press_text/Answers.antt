@@ -1,4 +1,4 @@
-use Rattle.std.proofs.Common.{◌≡◌, ℕ, length, IfOk, vec_items, sym, ap, ◌∙◌, subst}
+use Rattle.std.proofs.Common.{◌≡◌, ℕ, length, IfOk, vec_items, sym, ◌∙◌, subst}
 use Rattle.drafts.specs.Drawn.{drawn}
 use Rattle.reports.specs.Reports.{DraftPrints}
 use Rattle.reports.proofs.Adding.{made_none}

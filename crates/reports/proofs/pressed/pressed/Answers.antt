@@ -1,4 +1,4 @@
-use Rattle.std.proofs.Common.{◌≡◌, vec_items, sym, subst}
+use Rattle.std.proofs.Common.{vec_items, sym, subst}
 use Rattle.texts.specs.Any.{letter_of_draft, model_of}
 use Rattle.texts.specs.Grammar.{kind_of}
 use Rattle.reports.specs.Reports.{DraftPrints, ReadPrints, Prints}

@@ -1,4 +1,4 @@
-use Rattle.std.proofs.Common.{◌≡◌, [], ◌∷◌, vec_items, decimal, ◌∙◌}
+use Rattle.std.proofs.Common.{[], ◌∷◌, vec_items, decimal, ◌∙◌}
 use Rattle.texts.specs.Writing.{ended_line}
 use Rattle.reports.specs.Reports.{option_field}
 use Rattle.reports.proofs.Adding.{adds_by, adds_as, adds_then, verdict_text}

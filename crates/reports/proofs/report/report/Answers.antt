@@ -1,4 +1,4 @@
-use Rattle.std.proofs.Common.{◌≡◌, ℕ, List, ◌++◌, vec_items, ap, ◌∙◌}
+use Rattle.std.proofs.Common.{ℕ, List, ◌++◌, ap, ◌∙◌}
 use Rattle.automata.specs.Shown.{sign_bytes}
 use Rattle.tables.specs.Shown.{shown}
 use Rattle.texts.specs.Writing.{ended_line}

@@ -1,4 +1,4 @@
-use Rattle.std.proofs.Common.{◌≡◌, ℕ, List, [], ◌∷◌, ◌++◌, vec_items, decimal, refl, ap, ◌∙◌, append_assoc, append-nil}
+use Rattle.std.proofs.Common.{◌≡◌, ℕ, List, [], ◌∷◌, ◌++◌, vec_items, decimal, refl, ap, ◌∙◌}
 use Rattle.reports.specs.Scans.{code_text}
 use Rattle.reports.proofs.Adding.{adds_by, adds_as, adds_then}
 use Rattle.reports.proofs.scan_text.add_code.Goals as goal

@@ -1,4 +1,4 @@
-use Rattle.std.proofs.Common.{◌≡◌, ℕ, List, [], ◌∷◌, ◌++◌, vec_items, decimal, sym, ap, append_assoc, append-nil}
+use Rattle.std.proofs.Common.{◌≡◌, ℕ, List, [], ◌∷◌, ◌++◌, vec_items, decimal, sym, ap, append-nil}
 use Rattle.reports.proofs.Adding.{adds_as, adds_then}
 use Rattle.reports.proofs.scan_text.add_no_sign.Goals as goal
 

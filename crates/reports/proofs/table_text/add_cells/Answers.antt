@@ -1,4 +1,4 @@
-use Rattle.std.proofs.Common.{◌≡◌, ℕ, ◌<◌, List, [], ◌∷◌, ◌++◌, length, vec_items, decimal, sym, ap, ◌∙◌, append_assoc, append-nil, arith}
+use Rattle.std.proofs.Common.{◌≡◌, ℕ, List, ◌∷◌, ◌++◌, length, vec_items, decimal, sym, ap, ◌∙◌, append_assoc, append-nil, arith}
 use Rattle.fields.specs.Pieces.{behind}
 use Rattle.automata.specs.declared.signs.Signs.{Signs}
 use Rattle.automata.specs.Shown.{sign_bytes}

@@ -1,4 +1,4 @@
-use Rattle.std.proofs.Common.{◌≡◌, ℕ, List, [], ◌∷◌, vec_items, decimal, ap, ◌∙◌}
+use Rattle.std.proofs.Common.{[], ◌∷◌, vec_items, decimal, ap, ◌∙◌}
 use Rattle.automata.specs.Shown.{sign_bytes}
 use Rattle.texts.specs.Writing.{ended_line}
 use Rattle.reports.proofs.Adding.{adds_by, adds_as, adds_then, head_text}

@@ -1,4 +1,4 @@
-use Rattle.std.proofs.Common.{◌≡◌, ℕ, List, [], ◌∷◌, length, vec_items, decimal, ap, ◌∙◌}
+use Rattle.std.proofs.Common.{[], ◌∷◌, length, vec_items, decimal, ◌∙◌}
 use Rattle.automata.specs.Shown.{sign_bytes}
 use Rattle.drafts.specs.Words.{tabulate}
 use Rattle.machines.specs.Tables.{next}

@@ -1,4 +1,4 @@
-use Rattle.std.proofs.Common.{◌≡◌, ℕ, ◌<◌, List, [], ◌∷◌, ◌++◌, length, vec_items, sym, ap, ◌∙◌, append_assoc, append-nil, arith}
+use Rattle.std.proofs.Common.{◌≡◌, ℕ, List, [], ◌∷◌, ◌++◌, length, vec_items, sym, ap, ◌∙◌, append_assoc, append-nil, arith}
 use Rattle.fields.specs.Pieces.{ended}
 use Rattle.automata.specs.Shown.{sign_bytes}
 use Rattle.drafts.specs.Words.{tabulate}
