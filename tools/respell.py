@@ -40,7 +40,15 @@ CHOSEN = {
     "codeIn": "code_of_entry",
     "firstPlace": "first_place_of",
     "leadsTo": "leads_into",
-    "letterOf": "letter_of_byte",
+    "letterOf": "letter_of_draft",
+    "clean-admitted": "clean_admitted",
+    "clean-idem": "clean_idem",
+    "gapped-max": "gapped_max",
+    "join-admitted": "join_admitted",
+    "joinAll-admitted": "join_all_admitted",
+    "max-below": "max_below",
+    "none-admitted": "none_admitted",
+    "unit-right": "unit_right",
     "readCall": "call_of_line",
     "readHead": "head_of_line",
     "readLine": "draft_after_line",
@@ -54,6 +62,8 @@ CHOSEN = {
     "backwardTable": "backward_table_model",
     "tableMachine": "table_machine_model",
 }
+# a function has this name in the last landed text; no file cites both
+BESIDE = {"letterByte"}
 # Rattle's own names in proof files begin so
 MADE = re.compile(r"^(returns|loop-|invariant|decreases|overflow|bounds|slice[-_]bounds|offset|index-|in_|in-|then-|else-|if-|nonzero|prove-|type_inv)|-requires|-preserved|-init|-smaller")
 
@@ -128,7 +138,7 @@ def main():
         t = open(p, encoding="utf-8").read()
         used = set(TOKEN.findall(t))
         for n in used & set(turned):
-            if n in own and turned[n] in used - {n} and turned[n] not in own and turned[n] not in CHOSEN:
+            if n in own - BESIDE and turned[n] in used - {n} and turned[n] not in own and turned[n] not in CHOSEN:
                 bad.append((turned[n], [n, "stands in " + p]))
         texts[p] = t
     if bad:
