@@ -1,5 +1,5 @@
 -- A machine that counts letters up to a limit: it reaches one state more than the limit.
-use Rattle.std.specs.Prelude.{◌≡◌, ℕ, ◌+◌, ◌%◌, ◌<◌, cond, ◌&&◌, length, nat_lt}
+use Rattle.std.specs.Prelude.{ℕ, ◌+◌, ◌%◌, cond, ◌&&◌, length, nat_lt}
 use Rattle.std.proofs.Common.{arith}
 use Rattle.std.proofs.lemmas.Bool.{cond-false, lt-ltb, le-ltb, and_left}
 use Rattle.kinds.specs.Delivered.{y_model}
