@@ -11,12 +11,10 @@ pub returns-in_err-sets : goal.returns-in_err-sets
 returns-in_err-sets g c = made_none _ c.from_residual-in_err-sets.result c.from_residual-in_err-sets.ensures.0
 
 pub press_in-requires : goal.press_in-requires
-press_in-requires g c =
-    let sets : length c.as_mut_slice-3.result.now ≡ 128 = c.as_mut_slice-3.ensures.len ∙ c.in_ok-sets.ensures.len in
-    record {
-      columns = c.as_mut_slice.ensures.len ∙ (c.in_ok-columns.ensures.len ∙ sym sets);
-      chart = c.as_mut_slice-2.ensures.len ∙ (c.in_ok-chart.ensures.len ∙ sym sets);
-    }
+press_in-requires g c = record {
+  columns = c.as_mut_slice.ensures.len ∙ (c.in_ok-columns.ensures.len ∙ sym (c.as_mut_slice-3.ensures.len ∙ c.in_ok-sets.ensures.len));
+  chart = c.as_mut_slice-2.ensures.len ∙ (c.in_ok-chart.ensures.len ∙ sym (c.as_mut_slice-3.ensures.len ∙ c.in_ok-sets.ensures.len));
+}
 
 pub returns : goal.returns
 returns g c =
