@@ -28,7 +28,7 @@ fn build_twice<M: Machine>(
     ensures roll_long { length roll.new.entries.now ≡ length roll.old.entries.now }
     ensures chart_loan { chart.new.entries.ghost_name ≡ chart.old.entries.ghost_name }
     ensures chart_long { length chart.new.entries.now ≡ length chart.old.entries.now }
-    ensures ended { TwiceEnded (M.meaning machine.now) M.State.State.blank (record { table = table.exit.now.grid; entries = roll.new.entries.now; len = roll.new.len }) (record { table = last.new.grid; entries = chart.new.entries.now; len = chart.new.len }) result }
+    ensures ended { TwiceEnded (M.meaning machine.now) M.State.State.blank (record { table = table.new.grid; entries = roll.new.entries.now; len = roll.new.len }) (record { table = last.new.grid; entries = chart.new.entries.now; len = chart.new.len }) result }
 {
     let signs = machine.signs();
     if build(machine, table, roll).is_err() {
