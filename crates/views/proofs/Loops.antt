@@ -13,10 +13,6 @@ use Rattle.views.proofs.ThoseLaws.{those-more}
 pub at_end : {A : Type 0} (F : ℕ → A) (x : A) (i bound n : ℕ) → x ≡ F i → i ≤ bound → bound ≤ i → bound ≡ n → x ≡ F n
 at_end F x i bound n e l g b = e ∙ ap F (omega arith)
 
--- a code read at a place that was computed
-pub read_at : (cs : List ℕ) (e x p q : ℕ) → x ≡ get_or cs p e → p ≡ q → x ≡ get_or cs q e
-read_at cs e x p q h i = h ∙ ap (λ k. get_or cs k e) i
-
 -- no number so far passes the test
 pub still_none : (n : ℕ) (f : ℕ → Bool) → f n ≡ false → some n f ≡ false → some (n + 1) f ≡ false
 still_none n f h k = ap (λ m. some m f) (add-one n) ∙ or_from (f n) (some n f) h k
@@ -37,11 +33,3 @@ pub put_next : (n : ℕ) (f : ℕ → Bool) (b : Bool) (r s : StateSet) → s �
     → (n < 32 → (q : ℕ) → has r q ≡ cond (eqb q n) b (has s q)) → (32 ≤ n → r ≡ s) → r ≡ those (n + 1) f
 put_next n f b r s made here own past =
     those-more n f r (λ l q. own l q ∙ ap₂ (λ x t. cond (eqb q n) x (has t q)) here made) (λ g. past g ∙ made)
-
--- a join with one more code, where the answer b to the test is yes
-pub join-next : (K : KindModel) (n : ℕ) (s : ℕ → Bool) (f : ℕ → ℕ) (x y z r : ℕ) (b : Bool) → b ≡ s n → b ≡ true → x ≡ gather K n s f → y ≡ f n → z ≡ join K x y → r ≡ z → r ≡ gather K (n + 1) s f
-join-next K n s f x y z r b t h made here e i = i ∙ e ∙ ap₂ (join K) made here ∙ sym (gather_in K n s f (sym t ∙ h))
-
--- and where it is no
-pub join-same : (K : KindModel) (n : ℕ) (s : ℕ → Bool) (f : ℕ → ℕ) (x r : ℕ) (b : Bool) → b ≡ s n → b ≡ false → x ≡ gather K n s f → r ≡ x → r ≡ gather K (n + 1) s f
-join-same K n s f x r b t h made i = i ∙ made ∙ sym (gather_out K n s f (sym t ∙ h))

@@ -1,12 +1,12 @@
 ghost use Rattle.std.specs.Prelude.{◌≡◌};
-ghost use Rattle.automata.specs.Sets.{has};
 ghost use Rattle.automata.specs.Drafts.{size};
 ghost use Rattle.automata.specs.Shown.{shown};
 ghost use Rattle.drafts.specs.Drawn.{drawn};
 ghost use Rattle.views.specs.Accepted.{accepted};
-ghost use Rattle.views.specs.DraftViews.{join_over, code_of_state, leads_into, forward_draft_model};
+ghost use Rattle.views.specs.DraftViews.{code_of_state, leads_into, forward_draft_model};
 ghost use Rattle.views.specs.Those.{those};
 
+use crate::joins::join_over;
 use crate::states::Reached;
 use automata::automaton::Automaton;
 use automata::sets::StateSet;
@@ -19,10 +19,7 @@ use machines::machine::Machine;
 pub fn code_at<K: Kind>(automaton: &Automaton, state: usize) -> u8
     ensures { result ≡ code_of_state K.model (shown automaton.now) state }
 {
-    match automaton.code(state) {
-        Some(code) => code,
-        None => K::none(),
-    }
+    automaton.code(state).unwrap_or(K::none())
 }
 
 // The set of the entry states.
@@ -62,20 +59,6 @@ fn ends_set(automaton: &Automaton, set: StateSet, letter: usize) -> StateSet
     ends
 }
 
-// The join of the values of the states of the automaton that are in the set.
-fn join_values<K: Kind>(automaton: &Automaton, set: StateSet) -> u8
-    ensures { result ≡ join_over K.model (size (shown automaton.now)) (has set) (code_of_state K.model (shown automaton.now)) }
-{
-    let count = automaton.state_count();
-    let mut joined = K::none();
-    for p in 0..count {
-        if set.has(p) {
-            joined = K::join(joined, code_at::<K>(automaton, p));
-        }
-    }
-    joined
-}
-
 // A draft as a machine that reads words forward: its state is the set of the states that the word
 // reaches. Members that are no states of the draft count for nothing.
 #[derive_where(Clone, Copy)]
@@ -102,16 +85,20 @@ impl<'a, K: Kind> Machine for ForwardDraft<'a, K> {
 
     fn step(&self, state: &Reached, letter: usize) -> Reached {
         let automaton = self.draft.automaton();
-        if letter < automaton.sign_list().len() {
-            Reached {
-                set: ends_set(automaton, state.set, letter),
-            }
-        } else {
-            *state
+        if letter >= automaton.sign_list().len() {
+            return *state;
+        }
+        Reached {
+            set: ends_set(automaton, state.set, letter),
         }
     }
 
     fn value(&self, state: &Reached) -> u8 {
-        join_values::<K>(self.draft.automaton(), state.set)
+        let automaton = self.draft.automaton();
+        join_over::<K, _, _>(
+            automaton.state_count(),
+            |p| state.set.has(p),
+            |p| code_at::<K>(automaton, p),
+        )
     }
 }
