@@ -22,9 +22,10 @@ fn join_ends<K: Kind>(
 ) -> u8
     ensures { result ≡ ends_joined K.model (shown automaton.now) colouring.now letter from }
 {
+    let ends = automaton.ends(from, letter);
     join_over::<K, _, _>(
         automaton.state_count(),
-        |q| automaton.has_arrow(from, letter, q),
+        |q| ends.has(q),
         |q| colouring.code::<K>(q),
     )
 }
