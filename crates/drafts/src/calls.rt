@@ -14,10 +14,7 @@ pub enum Call {
     // end that
     Leave(usize),
     // replace a state's value
-    Rate {
-        state: usize,
-        value: u8,
-    },
+    Rate { state: usize, value: u8 },
 }
 
 // What an accepted call answers.
