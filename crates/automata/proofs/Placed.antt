@@ -1,7 +1,7 @@
 -- Arrays whose places are filled one after another, and items in a fixed number of places.
-use Rattle.std.proofs.Common.{◌≡◌, ℕ, zero, suc, ◌+◌, ◌-◌, ◌<◌, ◌≤◌, List, ◌++◌, length, get_or, take, replicate, sym, ap, ◌∙◌, subst, inl, inr, arith, length-append, length-take}
+use Rattle.std.proofs.Common.{◌≡◌, ℕ, zero, suc, ◌+◌, ◌-◌, ◌<◌, ◌≤◌, List, ◌++◌, length, get_or, take, replicate, sym, refl, ap, ◌∙◌, subst, inl, inr, arith, length-append, length-take}
 use lib.ListN.{length-replicate}
-use Rattle.std.proofs.lemmas.List.{ext_get_or, get_or_append_left, get_or-append_right, get_or-replicate, get_or-take, get_or_past, take_all}
+use Rattle.std.proofs.lemmas.List.{ext_get_or, get_or_append_left, get_or-append_right, get_or-replicate, get_or-take, get_or_past, take_all, take_at}
 use Rattle.std.proofs.lemmas.Bool.{cases_lt, cases_eq}
 use Rattle.std.specs.Array.{IsFromFnResult, IsFromFnResultFrom}
 use Rattle.std.specs.Fn.{Called}
@@ -40,6 +40,15 @@ module _ {A : Type 0} (n : ℕ) (xs : List A) (blank : A) where
   pub places_are : (ys : List A) → length ys ≡ n → ((k : ℕ) → k < n → get_or ys k blank ≡ get_or xs k blank) → ys ≡ placed
   places_are ys e h = ext_get_or blank ys placed (e ∙ sym placed-length) (λ k l. let lk : k < n = omega (arith, e) in h k lk ∙ sym (placed-at k lk))
 
+  pub placed-past : (k : ℕ) → length xs ≤ k → get_or placed k blank ≡ blank
+  placed-past k past =
+      elim (cases_lt k n) [
+        | inl inside ↦ placed-at k inside ∙ get_or_past xs k blank past
+        | inr out ↦ get_or_past placed k blank (omega (arith, placed-length))
+      ]
+
   -- no more items than places
-  pub placed_few : length xs ≤ n → placed ≡ xs ++ replicate (n - length xs) blank
-  placed_few few = ap (λ (ys : List A). ys ++ replicate (n - length xs) blank) (take_all n xs few)
+  pub placed-front : length xs ≤ n → take (length xs) placed ≡ xs
+  placed-front few =
+      ap (λ (ys : List A). take (length xs) (ys ++ replicate (n - length xs) blank)) (take_all n xs few)
+      ∙ take_at xs (replicate (n - length xs) blank) (length xs) refl

@@ -3,16 +3,12 @@ use Rattle.std.proofs.Common.{◌≡◌, ℕ, zero, suc, ◌-◌, ◌/◌, ◌%�
 use mathlib.Core.HLevel.{is_prop→PathP}
 use native.Mathlib.Bridge.{le_prop}
 use native.Mathlib.Nat.{div-eq_of_lt, zero-div}
-use lib.Bits.{bit_and, bit_or, and_mask}
+use lib.Bits.{bit_and, bit_or}
 use lib.Pow.{pow-lt}
 use Rattle.std.proofs.lemmas.Bool.{eq-eqb, ne_eqb, cases_lt, cases_eq, both_ways}
 use Rattle.automata.specs.declared.sets.StateSet.{StateSet}
 use Rattle.automata.specs.Sets.{bit, has, no_states}
 use Rattle.automata.proofs.Bits.{and_bit, or_bit, own_bit, other_bit, not_bit32}
-
--- one bit, as the code reads it
-pub low_bit : (n : ℕ) → bit_and n 1 ≡ n % 2
-low_bit n = and_mask n 1
 
 pub set_bits : (s t : StateSet) → s.bits ≡ t.bits → s ≡ t
 set_bits s t e = λ i. record { bits = e i; small = is_prop→PathP (λ j. e j < 2 ^ 32) (λ j. le_prop) s.small t.small i }

@@ -1,12 +1,11 @@
 -- The rules of sign lists as tests and as facts.
-use Rattle.std.proofs.Common.{◌≡◌, ℕ, ◌-◌, ◌<◌, ◌≤◌, Bool, true, leb, List, ◌++◌, length, get_or, take, replicate, Some, None, Decides, sym, refl, ◌∙◌, inl, inr, arith, length-append}
-use lib.ListN.{length-replicate}
-use Rattle.std.proofs.lemmas.List.{get_or_append_left, get_or-append_right, get_or-replicate, get_or_past, take_at}
-use Rattle.std.proofs.lemmas.Bool.{leb-true, le-leb, cases_Bool, cases_lt}
+use Rattle.std.proofs.Common.{◌≡◌, ℕ, ◌<◌, ◌≤◌, Bool, true, leb, List, length, get_or, Some, None, Decides, sym, refl, ◌∙◌, inl, inr, arith}
+use Rattle.std.proofs.lemmas.Bool.{leb-true, le-leb, cases_Bool}
 use Rattle.std.proofs.lemmas.Bool.Decides.{Decides-and, Decides-not, Decides-eqb, Decides-below_and}
 use Rattle.automata.specs.declared.faults.SignFault.TheVariants.{Count, Byte}
 use Rattle.automata.specs.Tests.{every}
 use Rattle.automata.specs.Signs.{counted, distinct, sign_fault, Visible, Apart, BlankPast}
+use Rattle.automata.proofs.Placed.{placed, placed-at, placed-past}
 
 decides_leb : (a b : ℕ) → Decides (leb a b) (a ≤ b)
 decides_leb a b = (leb-true a b, le-leb a b)
@@ -58,27 +57,13 @@ accepted-parts xs e =
       | inr f ↦ absurd (let z : ◌≡◌ {A = ℕ} 0 1 = (let w : sign_fault xs ≡ Some Count = rw f refl in cc) in omega arith)
     ]
 
--- the signs in 16 places
-abbrev pub padded : List ℕ → List ℕ
-padded xs = xs ++ replicate (16 - length xs) 0
+-- the signs in 16 places keep the rules too, and are 0 past their number
+module _ (xs : List ℕ) (few : length xs ≤ 16) where
+  pub placed-visible : Visible xs (length xs) → Visible (placed 16 xs 0) (length xs)
+  placed-visible v k l = rw (placed-at 16 xs 0 k (omega arith)) (v k l)
 
-pub padded-length : (xs : List ℕ) → length xs ≤ 16 → length (padded xs) ≡ 16
-padded-length xs few = simp (length-append, length-replicate) (omega arith)
+  pub placed-apart : Apart xs (length xs) → Apart (placed 16 xs 0) (length xs)
+  placed-apart a k l j lj e = a k l j lj (sym (placed-at 16 xs 0 j (omega arith)) ∙ (e ∙ placed-at 16 xs 0 k (omega arith)))
 
-padded-at : (xs : List ℕ) (k : ℕ) → k < length xs → get_or (padded xs) k 0 ≡ get_or xs k 0
-padded-at xs k l = get_or_append_left xs (replicate (16 - length xs) 0) 0 k l
-
-pub padded-visible : (xs : List ℕ) → Visible xs (length xs) → Visible (padded xs) (length xs)
-padded-visible xs v = λ k l. rw (padded-at xs k l) (v k l)
-
-pub padded-apart : (xs : List ℕ) → Apart xs (length xs) → Apart (padded xs) (length xs)
-padded-apart xs a = λ k l j lj e. a k l j lj (sym (padded-at xs j (omega arith)) ∙ (e ∙ padded-at xs k l))
-
-get_or-zeros : (n k : ℕ) → get_or {A = ℕ} (replicate n 0) k 0 ≡ 0
-get_or-zeros n k = elim (cases_lt k n) [ inl l ↦ get_or-replicate n k 0 0 l | inr g ↦ get_or_past (replicate n 0) k 0 (simp length-replicate (omega arith)) ]
-
-pub padded-blank : (xs : List ℕ) → BlankPast (padded xs) (length xs)
-padded-blank xs = λ k l. get_or-append_right xs (replicate (16 - length xs) 0) (length xs) k 0 refl l ∙ get_or-zeros (16 - length xs) (k - length xs)
-
-pub padded-front : (xs : List ℕ) → take (length xs) (padded xs) ≡ xs
-padded-front xs = take_at xs (replicate (16 - length xs) 0) (length xs) refl
+  pub placed-blank : BlankPast (placed 16 xs 0) (length xs)
+  placed-blank k l = placed-past 16 xs 0 k l

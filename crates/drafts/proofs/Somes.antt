@@ -1,22 +1,13 @@
 -- A test that is true of some number below a bound.
-use Rattle.std.proofs.Common.{◌≡◌, ℕ, zero, suc, ◌<◌, Bool, true, false, ◌||◌, sym, refl, ap, ◌∙◌, arith}
-use mathlib.Core.Bool.{false≢true}
-use native.Mathlib.Decide.{ℕ_discrete}
-use Rattle.std.proofs.lemmas.Bool.{or_left, or_right}
+use Rattle.std.proofs.Common.{◌≡◌, ℕ, ◌<◌, Bool, true, Decides, refl}
+use Rattle.std.proofs.lemmas.Bool.Decides.{Decides-below_or}
 use Rattle.automata.specs.Tests.{some}
 
+decides_some : (m : ℕ) (f : ℕ → Bool) → Decides (some m f) ((p : ℕ) × (p < m) × (f p ≡ true))
+decides_some m f = Decides-below_or f (λ p. f p ≡ true) (λ n. some n f) (λ p. (λ h. h, λ h. h)) refl (λ _. refl) m
+
 pub some-true : (m : ℕ) (f : ℕ → Bool) (p : ℕ) → p < m → f p ≡ true → some m f ≡ true
-some-true zero f p l h = let z : ⊥ = omega arith in absurd z
-some-true (suc m) f p l h = go (ℕ_discrete p m) (λ k. some-true m f p k h)
-  where
-    go : Dec (p ≡ m) → (p < m → some m f ≡ true) → (f m || some m f) ≡ true
-    go (yes e) rec = or_left (f m) (some m f) (ap f (sym e) ∙ h)
-    go (no e) rec = or_right (f m) (some m f) (rec (omega arith))
+some-true m f p l h = (decides_some m f).1 (p, l, h)
 
 pub true-some : (m : ℕ) (f : ℕ → Bool) → some m f ≡ true → (p : ℕ) × (p < m) × (f p ≡ true)
-true-some zero f h = absurd (false≢true h)
-true-some (suc m) f h = go (f m) refl h (true-some m f)
-  where
-    go : (b : Bool) → f m ≡ b → (b || some m f) ≡ true → (some m f ≡ true → (p : ℕ) × (p < m) × (f p ≡ true)) → (p : ℕ) × (p < suc m) × (f p ≡ true)
-    go true e k rec = (m, omega arith, e)
-    go false e k rec = let r = rec k in (r.0, omega arith, r.2)
+true-some m f h = (decides_some m f).0 h

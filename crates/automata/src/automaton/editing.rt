@@ -1,6 +1,5 @@
-ghost use Rattle.std.specs.Prelude.{◌≡◌, Bool, ◌&&◌, [], ◌∷◌, ◌++◌, length, if◌then◌else◌, nat_lt, slice_set};
-ghost use Rattle.automata.specs.Drafts.{is_state, is_letter};
-ghost use Rattle.automata.specs.Drafts.{size, letters, fresh, with_values, with_entry, with_arrow};
+ghost use Rattle.std.specs.Prelude.{◌≡◌, ◌&&◌, [], ◌∷◌, ◌++◌, if◌then◌else◌, nat_lt, slice_set};
+ghost use Rattle.automata.specs.Drafts.{size, is_state, is_letter, fresh, with_values, with_entry, with_arrow};
 ghost use Rattle.automata.specs.Shown.{sign_bytes, shown};
 
 use crate::arrow::Arrow;
