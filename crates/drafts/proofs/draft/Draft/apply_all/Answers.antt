@@ -24,20 +24,9 @@ module _ (K : KindModel) (d e : DraftModel) (calls : List Call) (i : ℕ) (l : i
   moved : (f : DraftModel) → after_all K d (drop i calls) ≡ f → after_all K e (drop (i + 1) calls) ≡ f
   moved f inv = ap (λ (g : DraftModel). after_all K g (drop (i + 1) calls)) left ∙ (sym (at_drop_more (after_all K d) calls i (Grow 0) l) ∙ inv)
 
-started : (xs ys : List (Result Answer CallFault)) → xs ≡ [] → xs ++ ys ≡ ys
-started xs ys e = ap (λ (zs : List (Result Answer CallFault)). zs ++ ys) e
-
 ended : (K : KindModel) (d : DraftModel) (calls : List Call) (i : ℕ) → length calls ≤ i → (xs all : List (Result Answer CallFault)) → xs ++ outcomes K d (drop i calls) ≡ all → xs ≡ all
 ended K d calls i l xs all inv =
     sym (append-nil xs) ∙ (ap (λ (ys : List (Result Answer CallFault)). xs ++ ys) (sym (at_drop_all (outcomes K d) calls i l)) ∙ inv)
-
-pub loop-call-init : goal.loop-call-init
-loop-call-init g c = let m = c.in_ok-answers.ensures in (m.len, m.capacity, started _ _ m.items, refl)
-
-pub returns-in_err-push : goal.returns-in_err-push
-returns-in_err-push g c =
-    let i = c.loop-call.invariant in
-    absurd (omega (arith, i.0, i.1, c.in_err-push.ensures.full, c.loop-call-test.true))
 
 pub loop-call-preserved : goal.loop-call-preserved
 loop-call-preserved g c =
