@@ -1,7 +1,6 @@
 -- What a chain over the numbers below a bound makes of those that pass a test: filtered, mapped and folded.
-use Rattle.std.proofs.Common.{◌≡◌, ℕ, ◌+◌, Bool, true, false, cond, List, [], ◌∷◌, ◌++◌, map, sym, refl, ap, ◌∙◌, zero-add, arith}
+use Rattle.std.proofs.Common.{◌≡◌, ℕ, ◌+◌, Bool, true, false, cond, [], ◌∷◌, ◌++◌, map, sym, refl, ap, ◌∙◌, zero-add, arith}
 use mathlib.Core.List.{map-append, map-id}
-use Rattle.std.specs.declared.ops.Range.{Range}
 use Rattle.std.specs.List.{fold, filter, range_with_len}
 use Rattle.std.specs.Iterator.Runs.{Run}
 use Rattle.std.proofs.iter.Yields.{nat_range_steps}

@@ -23,7 +23,7 @@ pub fn code_at<K: Kind>(automaton: &Automaton, state: usize) -> u8
     automaton.code(state).unwrap_or(K::none())
 }
 
-// The set of the members of both.
+// The set of what is a member of one or of both.
 fn union(a: StateSet, b: StateSet) -> StateSet
     ensures { (q : ℕ) → has result q ≡ (has a q || has b q) }
 {
@@ -59,8 +59,9 @@ impl<'a, K: Kind> Machine for ForwardDraft<'a, K> {
     }
 
     fn start(&self) -> Reached {
+        let automaton = self.draft.automaton();
         Reached {
-            set: self.draft.automaton().entries(),
+            set: automaton.entries(),
         }
     }
 

@@ -1,4 +1,4 @@
-use Rattle.std.proofs.Common.{◌≡◌, ℕ, ◌+◌, List, Some, None, get_or, sym, ap, ◌∙◌, subst}
+use Rattle.std.proofs.Common.{ℕ, ◌+◌, List, Some, None, get_or, sym, ap, ◌∙◌, subst}
 use Rattle.automata.specs.declared.signs.Signs.{Signs}
 use Rattle.automata.specs.Shown.{sign_bytes}
 use Rattle.lookup.specs.Lookups.{LetterOf, BestTo, kept}

@@ -15,6 +15,6 @@ returns g c = λ s f hs hf.
     let d = c.filter.ensures.runs b.0 b.0.seen b.1 in
     a.3 (join K) (λ x y z q k. Prim.search rules)
     ∙ ap (fold (join K) c.none.result)
-        (b.2.3 f (λ x z q k. (Prim.search (rules, of_calls, step_stays_lem), Prim.search (rules, of_calls, hf)))
-        ∙ ap (map f) (d.2.4 s (λ x z q k. Prim.search (rules, hs)) ∙ ap (filter s) (range_items d.0 n (d.2.0 ∙ b.2.0 ∙ a.2) d.1)))
+    (b.2.3 f (λ x z q k. (Prim.search (rules, of_calls, step_stays_lem), Prim.search (rules, of_calls, hf)))
+    ∙ ap (map f) (d.2.4 s (λ x z q k. Prim.search (rules, hs)) ∙ ap (filter s) (range_items d.0 n (d.2.0 ∙ b.2.0 ∙ a.2) d.1)))
     ∙ ap (λ x. chain (join K) x s f n) c.none.ensures ∙ joined K s f n

@@ -1,4 +1,4 @@
-use Rattle.std.proofs.Common.{ap, ◌∙◌, subst}
+use Rattle.std.proofs.Common.{ap, ◌∙◌}
 use Rattle.automata.specs.declared.automaton.Automaton.{Automaton}
 use Rattle.automata.specs.Drafts.{size}
 use Rattle.automata.specs.Shown.{shown}
@@ -8,4 +8,4 @@ use Rattle.views.proofs.forward_draft.ForwardDraftMachine.start.Goals as goal
 
 pub returns : goal.returns
 returns g c =
-    ap reached_set (entries_are c.automaton.result.now c.entries.result c.entries.ensures ∙ ap (λ (d : Automaton). those (size (shown d)) (shown d).entry) c.automaton.ensures)
+    ap reached_set (entries_are c.automaton-automaton.result.now c.entries.result c.entries.ensures ∙ ap (λ (d : Automaton). those (size (shown d)) (shown d).entry) c.automaton-automaton.ensures)
