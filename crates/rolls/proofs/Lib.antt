@@ -1,4 +1,3 @@
-pub mod Blanks
 pub mod Differing
 pub mod RollLaws
 pub mod Searching

@@ -2,6 +2,7 @@
 ghost use Rattle.std.specs.Prelude.{◌≡◌, ◌<◌, ◌≤◌, length, replicate, slice_index_or};
 ghost use Rattle.automata.specs.Shown.{sign_bytes};
 ghost use Rattle.machines.specs.Models.{alphabet};
+ghost use Rattle.rolls.specs.Rolls.{KeepsLoan};
 ghost use Rattle.tables.specs.Builds.{build_fault_number, Ended, Wiped};
 ghost use Rattle.tables.specs.Filling.{Filling};
 ghost use Rattle.tables.specs.Steps.{RowEnd, WalkEnd};
@@ -46,10 +47,7 @@ fn value_of<M: Machine>(machine: &M, roll: &Roll<'_, M::State>, i: usize) -> u8
     requires { i < roll.now.len }
     ensures { result ≡ (M.meaning machine.now).value (slice_index_or roll.now.entries.now i M.State.State.blank) }
 {
-    match roll.get(i) {
-        Some(state) => machine.value(state),
-        None => 0,
-    }
+    machine.value(&roll.as_slice()[i])
 }
 
 // Where a letter leads from state i of the roll.
@@ -57,10 +55,7 @@ fn step_of<M: Machine>(machine: &M, roll: &Roll<'_, M::State>, i: usize, letter:
     requires { i < roll.now.len }
     ensures { result ≡ (M.meaning machine.now).step (slice_index_or roll.now.entries.now i M.State.State.blank) letter }
 {
-    match roll.get(i) {
-        Some(state) => machine.step(state, letter),
-        None => M::State::blank(),
-    }
+    machine.step(&roll.as_slice()[i], letter)
 }
 
 // The value and the next states of state i; new states go to the end of the roll.
@@ -75,8 +70,7 @@ fn fill_row<M: Machine>(
     requires letters { letters ≡ alphabet (M.meaning machine.now) }
     requires listed { i < roll.old.len }
     requires filling { Filling (M.meaning machine.now) M.State.State.blank roll.old.entries.now roll.old.len values.old i next.old i 0 }
-    ensures loan { roll.new.entries.ghost_name ≡ roll.old.entries.ghost_name }
-    ensures long { length roll.new.entries.now ≡ length roll.old.entries.now }
+    ensures loan { KeepsLoan roll.old.entries roll.new.entries }
     ensures ended { RowEnd (M.meaning machine.now) M.State.State.blank roll.new.entries.now roll.new.len values.new next.new i result }
     ensures listed { i < roll.new.len }
 {
@@ -105,8 +99,7 @@ fn walk<M: Machine>(
     requires blank_next { next.old ≡ replicate 128 (replicate 16 0) }
     requires blank_roll { roll.old.entries.now ≡ replicate (length roll.old.entries.now) M.State.State.blank }
     requires unlisted { roll.old.len ≡ 0 }
-    ensures loan { roll.new.entries.ghost_name ≡ roll.old.entries.ghost_name }
-    ensures long { length roll.new.entries.now ≡ length roll.old.entries.now }
+    ensures loan { KeepsLoan roll.old.entries roll.new.entries }
     ensures ended { WalkEnd (M.meaning machine.now) M.State.State.blank roll.new.entries.now roll.new.len values.new next.new result }
 {
     roll.place(machine.start())?;
@@ -120,8 +113,7 @@ fn walk<M: Machine>(
 
 // Leaves a blank table with these signs, and an empty and blank roll.
 pub fn wipe<K: Kind, T: State>(signs: Signs, table: &mut Table<K>, roll: &mut Roll<'_, T>)
-    ensures loan { roll.new.entries.ghost_name ≡ roll.old.entries.ghost_name }
-    ensures long { length roll.new.entries.now ≡ length roll.old.entries.now }
+    ensures loan { KeepsLoan roll.old.entries roll.new.entries }
     ensures wiped { Wiped (sign_bytes signs) K.Kind.model.none T.State.blank table.new.grid roll.new.entries.now roll.new.len }
 {
     *table = Table::blank(signs);
@@ -136,8 +128,7 @@ pub fn build<M: Machine>(
     table: &mut Table<M::Kind>,
     roll: &mut Roll<'_, M::State>,
 ) -> Result<(), BuildFault>
-    ensures loan { roll.new.entries.ghost_name ≡ roll.old.entries.ghost_name }
-    ensures long { length roll.new.entries.now ≡ length roll.old.entries.now }
+    ensures loan { KeepsLoan roll.old.entries roll.new.entries }
     ensures ended { Ended (M.meaning machine.now) M.State.State.blank table.new.grid roll.new.entries.now roll.new.len result }
 {
     let signs = machine.signs();

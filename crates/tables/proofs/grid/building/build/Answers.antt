@@ -1,5 +1,6 @@
 use Rattle.std.proofs.Common.{◌≡◌, ℕ, length, replicate, sym, refl, ap, ◌∙◌, subst, arith}
 use lib.ListN.{length-replicate}
+use Rattle.rolls.proofs.RollLaws.{keeps_on}
 use Rattle.tables.specs.declared.grid.Grid.{Grid}
 use Rattle.tables.specs.Builds.{Accepted}
 use Rattle.tables.proofs.Filled.{filled-some, filled-inside, filled-below, letters_are, accepted, refused}
@@ -8,12 +9,11 @@ use Rattle.tables.proofs.grid.building.build.Goals as goal
 pub walk-requires : goal.walk-requires
 walk-requires g c =
     let d = g.M.State.State.blank in
-    let l : length c.clear.new.self.entries.now ≡ length c.args.roll.now.entries.now = ap length c.clear.ensures.items ∙ length-replicate _ g.M.State.State.blank in
     record {
       letters = c.len.ensures ∙ ap length c.signs-signs.ensures.signs;
       blank_values = refl;
       blank_next = refl;
-      blank_roll = c.clear.ensures.items ∙ ap (λ (n : ℕ). replicate n g.M.State.State.blank) (sym l);
+      blank_roll = c.clear.ensures.items ∙ ap (λ (n : ℕ). replicate n g.M.State.State.blank) (sym c.clear.ensures.loan.long);
       unlisted = c.clear.ensures.len;
     }
 
@@ -39,10 +39,8 @@ pub returns-in-Ok : goal.returns-in-Ok
 returns-in-Ok g c =
     let m = g.M.Machine.meaning c.args.machine.now in
     let q = c.in-Ok.ensures in
-    let l : length c.clear.new.self.entries.now ≡ length c.args.roll.now.entries.now = ap length c.clear.ensures.items ∙ length-replicate _ g.M.State.State.blank in
     record {
-      loan = q.loan ∙ c.clear.ensures.loan;
-      long = q.long ∙ l;
+      loan = keeps_on c.clear.ensures.loan q.loan;
       ended = subst (λ (t : Grid). Accepted (g.M.Machine.meaning c.args.machine.now) g.M.State.State.blank t c.walk.new.roll.entries.now c.walk.new.roll.len) (sym c.of.ensures)
           (accepted m _ _ _ c.in-Ok.count _ c.signs-signs.result refl c.signs-signs.ensures.signs refl q.ended.0 q.ended.1);
     }
@@ -51,10 +49,8 @@ pub returns-in-Err : goal.returns-in-Err
 returns-in-Err g c =
     let m = g.M.Machine.meaning c.args.machine.now in
     let q = c.in-Err.ensures in
-    let l : length c.clear.new.self.entries.now ≡ length c.args.roll.now.entries.now = ap length c.clear.ensures.items ∙ length-replicate _ g.M.State.State.blank in
     record {
-      loan = c.wipe.ensures.loan ∙ (q.loan ∙ c.clear.ensures.loan);
-      long = c.wipe.ensures.long ∙ (q.long ∙ l);
+      loan = keeps_on c.clear.ensures.loan (keeps_on q.loan c.wipe.ensures.loan);
       ended = refused m g.M.Kind.Kind.model _ c.walk.new.roll.entries.now _ _ _ c.signs-signs.result c.signs-signs.ensures.signs c.signs-signs.ensures.kind
-          q.ended c.wipe.ensures.long c.wipe.ensures.wiped;
+          q.ended c.wipe.ensures.loan.long c.wipe.ensures.wiped;
     }

@@ -6,6 +6,5 @@ use Rattle.tables.proofs.grid.building.wipe.Goals as goal
 pub returns : goal.returns
 returns g c = record {
   loan = c.clear.ensures.loan;
-  long = ap length c.clear.ensures.items ∙ length-replicate _ g.T.State.blank;
   wiped = wiped g.T.State.blank c.args.roll.now.entries.now _ _ _ _ _ c.blank.ensures c.clear.ensures.items c.clear.ensures.len;
 }
