@@ -4,7 +4,7 @@ ghost use Rattle.views.specs.Colourings.{plain};
 use kinds::kind::Kind;
 
 // A code for each of 128 places.
-#[derive(Clone, Copy)]
+#[derive(Clone, Copy, PartialEq, Eq)]
 pub struct Colouring {
     pub codes: [u8; 128],
 }
