@@ -1,7 +1,9 @@
 -- A table filled value by value and cell by cell.
 use Rattle.std.proofs.Common.{◌≡◌, ℕ, suc, ◌+◌, ◌*◌, ◌/◌, ◌%◌, ◌<◌, ◌≤◌, min, cond, ◌&&◌, eqb, ◌⊎◌, List, [], ◌∷◌, ◌++◌, length, get_or, take, set, replicate, sym, refl, ap, ◌∙◌, subst, ap₂, inl, inr, add-mul, div-add-mod', arith, length-set}
 use lib.ListN.{length-replicate}
-use Rattle.std.proofs.lemmas.List.{get_or-take, get_or_default, get_or_past, get_or-set_other, get_or-replicate, take_more_set, length-take-le}
+use Rattle.std.proofs.lemmas.List.{map-set, get_or-take, get_or_default, get_or_past, get_or-set_other, get_or-replicate, take_more_set, length-take-le}
+use Rattle.std.proofs.Math.ListN.{get_or-map}
+use Rattle.std.proofs.Math.Seq.{map-set_same}
 use Rattle.std.proofs.lemmas.Bool.{cases_eq, cases_lt, eq-eqb, ne_eqb}
 use Rattle.automata.proofs.ArrowLaws.{written, written-ends, written-rows}
 use Rattle.automata.proofs.ShownLaws.{set-bytes, set-blank}
@@ -11,10 +13,11 @@ use Rattle.machines.specs.Models.{MachineModel, alphabet, Spread}
 use Rattle.machines.specs.Built.{entry}
 use Rattle.machines.proofs.Growing.{Grown, grown-start, grown-value, grown_known, grown_new, grown_row, grown-more}
 use Rattle.rolls.specs.Rolls.{Found, Added, Full}
-use Rattle.tables.specs.Held.{cell}
+use Rattle.tables.specs.declared.grid.row.Row.{Row}
+use Rattle.tables.specs.Held.{values_of, cells_of, cell}
 use Rattle.tables.specs.Filling.{cells_up_to, Filling}
 use Rattle.tables.proofs.Cells.{cell_at}
-use Rattle.tables.proofs.GridLaws.{no_cells, row_none, cell-none}
+use Rattle.tables.proofs.GridLaws.{no_cells, past_rows, row_none, cell-none}
 
 -- there are at most 16 letters
 pub few-letters : {S : Type 0} (m : MachineModel S) → alphabet m ≤ 16
@@ -242,3 +245,25 @@ module _ {S : Type 0} (m : MachineModel S) (d s : S) (es : List S) (len : ℕ) (
   first-full f =
       let z : 1 ≡ suc (min 128 (length es')) = omega (arith, f.full, ap length f.kept) in
       subst (Spread m) z (start-spread m)
+
+-- An entry of the roll's slice of states in use is that entry of the roll.
+pub in_use : {S : Type 0} (d x : S) (used es : List S) (n i : ℕ) → x ≡ get_or used i x → used ≡ take n es → n ≤ length es → i < n → x ≡ get_or es i d
+in_use d x used es n i e h w l = e ∙ (ap (λ xs. get_or xs i x) h ∙ (get_or-take n es i x l ∙ get_or_default es i x d (omega arith)))
+
+-- A filling of rows, where a value or a cell is written to one of them.
+module _ {S : Type 0} (m : MachineModel S) (d : S) (es : List S) (len v : ℕ) (rows : List Row) (i a : ℕ) where
+  pub value-written : (x : ℕ) → Filling m d es len (set (values_of rows) i x) v (cells_of rows) i a
+      → Filling m d es len (values_of (set rows i (record { value = x; next = (get_or rows i past_rows).next }))) v (cells_of (set rows i (record { value = x; next = (get_or rows i past_rows).next }))) i a
+  value-written x g =
+      let row : Row = record { value = x; next = (get_or rows i past_rows).next } in
+      subst (λ (vs : List ℕ). Filling m d es len vs v (cells_of (set rows i row)) i a) (sym (map-set (λ r. r.value) rows i row))
+      (subst (λ (cs : List (List ℕ)). Filling m d es len (set (values_of rows) i x) v cs i a) (sym (map-set_same (λ r. r.next) rows i row past_rows refl)) g)
+
+  pub cell-written : (b c : ℕ) → Filling m d es len (values_of rows) v (written (cells_of rows) i b c) i a
+      → Filling m d es len (values_of (set rows i (record { value = (get_or rows i past_rows).value; next = set (get_or rows i past_rows).next b c }))) v
+      (cells_of (set rows i (record { value = (get_or rows i past_rows).value; next = set (get_or rows i past_rows).next b c }))) i a
+  cell-written b c g =
+      let row : Row = record { value = (get_or rows i past_rows).value; next = set (get_or rows i past_rows).next b c } in
+      let there : set (get_or (cells_of rows) i []) b c ≡ set (get_or rows i past_rows).next b c = ap (λ (r : List ℕ). set r b c) (get_or-map (λ r. r.next) rows i past_rows) in
+      subst (λ (vs : List ℕ). Filling m d es len vs v (cells_of (set rows i row)) i a) (sym (map-set_same (λ r. r.value) rows i row past_rows refl))
+      (subst (λ (cs : List (List ℕ)). Filling m d es len (values_of rows) v cs i a) (ap (set (cells_of rows) i) there ∙ sym (map-set (λ r. r.next) rows i row)) g)

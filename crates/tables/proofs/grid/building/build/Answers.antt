@@ -4,6 +4,7 @@ use Rattle.rolls.proofs.RollLaws.{keeps_on}
 use Rattle.tables.specs.declared.grid.Grid.{Grid}
 use Rattle.tables.specs.Builds.{Accepted}
 use Rattle.tables.proofs.Filled.{filled-some, filled-inside, filled-below, letters_are, accepted, refused}
+use Rattle.tables.proofs.GridLaws.{values-long}
 use Rattle.tables.proofs.grid.building.build.Goals as goal
 
 pub walk-requires : goal.walk-requires
@@ -11,8 +12,7 @@ walk-requires g c =
     let d = g.M.State.State.blank in
     record {
       letters = c.len.ensures ∙ ap length c.signs-signs.ensures.signs;
-      blank_values = refl;
-      blank_next = refl;
+      blank_rows = c.no_rows-rows.ensures;
       blank_roll = c.clear.ensures.items ∙ ap (λ (n : ℕ). replicate n g.M.State.State.blank) (sym c.clear.ensures.loan.long);
       unlisted = c.clear.ensures.len;
     }
@@ -25,9 +25,8 @@ invariant_of-grid g c =
     record {
       some = filled-some m _ _ _ _ _ _ q.1 q.0;
       few = omega (arith, q.0, q.1.few);
-      wide = q.1.wide;
+      tall = omega (arith, values-long c.walk.new.rows, q.1.wide);
       bytes = q.1.bytes;
-      rows = q.1.tall;
       columns = q.1.columns;
       blank = q.1.unvalued;
       inside = λ i a li la. filled-inside m _ _ _ _ _ _ q.1 q.0 i a li (omega (arith, k));

@@ -1,6 +1,7 @@
 use Rattle.std.proofs.Common.{length, Ok, refl, ap, ◌∙◌, arith}
 use Rattle.std.proofs.lemmas.Result.{err_from_is_err_and}
 use Rattle.rolls.proofs.RollLaws.{keeps_on}
+use Rattle.tables.specs.Held.{values_of, cells_of}
 use Rattle.tables.specs.declared.grid.building.BuildFault.{BuildFault}
 use Rattle.tables.proofs.Fillings.{first_filling, first-full}
 use Rattle.tables.proofs.grid.building.walk.Goals as goal
@@ -19,7 +20,7 @@ loop-i-init g c =
     let q = c.in_ok-place.ensures in (
       record { loan = refl; long = refl },
       omega arith,
-      first_filling _ _ _ _ _ _ _ c.start.ensures c.requires.unlisted c.requires.blank_roll c.in_ok-place.field-0 q.placed _ c.requires.blank_values _ c.requires.blank_next,
+      first_filling _ _ _ _ _ _ _ c.start.ensures c.requires.unlisted c.requires.blank_roll c.in_ok-place.field-0 q.placed _ (ap values_of c.requires.blank_rows) _ (ap cells_of c.requires.blank_rows),
     )
 
 pub fill_row-requires : goal.fill_row-requires
