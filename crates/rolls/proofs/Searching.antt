@@ -1,9 +1,9 @@
 -- What a search of the entries in use found, by what it says of their slice.
-use Rattle.std.proofs.Common.{◌≡◌, ℕ, ◌<◌, ◌≤◌, ◌≢◌, List, length, get_or, take, Some, None, Option, sym, ◌∙◌, arith}
+use Rattle.std.proofs.Common.{◌≡◌, ℕ, ◌<◌, ◌≤◌, ◌≢◌, List, length, take, Some, None, Option, sym, ◌∙◌, arith}
 use Rattle.std.specs.List.{AllWithin, HoldsAt}
 use Rattle.std.specs.Option.{MatchOption}
 use Rattle.std.proofs.lemmas.List.{get_or-take, length-take-le}
-use Rattle.rolls.specs.Rolls.{Different, Absent, Addable, Searched}
+use Rattle.rolls.specs.Rolls.{Different, Addable, Searched}
 use Rattle.rolls.proofs.Differing.{different_added}
 
 -- es, n: the entries, and how many are in use; d is what is read past the end
