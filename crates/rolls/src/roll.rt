@@ -17,6 +17,7 @@ pub struct Roll<'a, T> {
 fn wipe<T: State>(entries: &mut [T])
     ensures { entries.new ≡ replicate (length entries.old) T.blank }
 {
+    // The checker covers no fill_with(T::default): the function passed names T in its result alone.
     for e in entries.iter_mut() {
         *e = T::default();
     }

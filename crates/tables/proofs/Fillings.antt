@@ -105,15 +105,14 @@ module _ {S : Type 0} (m : MachineModel S) (d : S) (es : List S) (len : ℕ) (vs
         | inr np ↦ rw (ne_eqb p i np) refl
       ]
 
-  -- the letter leads to a state that is known, number c
-  pub filling_known : (c : ℕ) → i < len → a < alphabet m → c < len → m.step (get_or es i d) a ≡ get_or es c d → Filling m d es len vs v (written rows i a c) i (a + 1)
-  filling_known c l la lc e = record {
-    grown = subst (λ (cs : List ℕ). Grown m (take len es) (take v vs) cs i (a + 1)) (sym (cells-more (alphabet m) rows i a c la (in_row l) (in-column l la)))
-        (grown_known g.grown c (omega (arith, states-long)) la (omega (arith, states-long))
-        (ap (λ (s : S). m.step s a) (state_is i l) ∙ (e ∙ sym (state_is c lc))));
-    few = g.few;
-    within = g.within;
-    fresh = g.fresh;
+  -- a cell is written, where es' are the states from here on
+  cell_filled : (es' : List S) (len' c : ℕ) → i < len → a < alphabet m → Grown m (take len' es') (take v vs) (cells_up_to (alphabet m) rows (i * alphabet m + a) ++ c ∷ []) i (a + 1)
+      → len' ≤ 128 → len' ≤ length es' → ((k : ℕ) → len' ≤ k → get_or es' k d ≡ d) → Filling m d es' len' vs v (written rows i a c) i (a + 1)
+  cell_filled es' len' c l la grown few within fresh = record {
+    grown = subst (λ (cs : List ℕ). Grown m (take len' es') (take v vs) cs i (a + 1)) (sym (cells-more (alphabet m) rows i a c la (in_row l) (in-column l la))) grown;
+    few = few;
+    within = within;
+    fresh = fresh;
     wide = g.wide;
     bytes = g.bytes;
     unvalued = g.unvalued;
@@ -123,6 +122,13 @@ module _ {S : Type 0} (m : MachineModel S) (d : S) (es : List S) (len : ℕ) (vs
     beside = λ p b h. other-cell c l la p b (λ x y. omega arith) ∙ g.beside p b h;
   }
 
+  -- the letter leads to a state that is known, number c
+  pub filling_known : (c : ℕ) → i < len → a < alphabet m → c < len → m.step (get_or es i d) a ≡ get_or es c d → Filling m d es len vs v (written rows i a c) i (a + 1)
+  filling_known c l la lc e =
+      cell_filled es len c l la
+      (grown_known g.grown c (omega (arith, states-long)) la (omega (arith, states-long)) (ap (λ (s : S). m.step s a) (state_is i l) ∙ (e ∙ sym (state_is c lc))))
+      g.few g.within g.fresh
+
   -- none of the states found so far is s
   new-state : (s : S) → ((k : ℕ) → k < len → get_or es k d ≡ s → ⊥) → (j : ℕ) → j < length (take len es) → entry m (take len es) j ≡ s → ⊥
   new-state s absent j l e = let lj : j < len = omega (arith, states-long) in absent j lj (sym (state_is j lj) ∙ e)
@@ -130,22 +136,13 @@ module _ {S : Type 0} (m : MachineModel S) (d : S) (es : List S) (len : ℕ) (vs
   -- the letter leads to a new state, which was added
   pub filling_new : (s : S) → i < len → a < alphabet m → m.step (get_or es i d) a ≡ s → ((k : ℕ) → k < len → get_or es k d ≡ s → ⊥) → len < length es → len < 128
       → Filling m d (set es len s) (len + 1) vs v (written rows i a len) i (a + 1)
-  filling_new s l la e absent room small = record {
-    grown = subst (λ (xs : List S). Grown m xs (take v vs) (cells_up_to (alphabet m) (written rows i a len) (i * alphabet m + (a + 1))) i (a + 1)) (sym (take_more_set es len s room))
-        (subst (λ (cs : List ℕ). Grown m (take len es ++ s ∷ []) (take v vs) cs i (a + 1))
-        (ap (λ (c : ℕ). cells_up_to (alphabet m) rows (i * alphabet m + a) ++ c ∷ []) states-long ∙ sym (cells-more (alphabet m) rows i a len la (in_row l) (in-column l la)))
-        (grown_new g.grown s (omega (arith, states-long)) la (ap (λ (s : S). m.step s a) (state_is i l) ∙ e) (new-state s absent)));
-    few = omega arith;
-    within = rw (length-set es len s) (omega arith);
-    fresh = λ k h. get_or-set_other es len k s d (λ x. omega arith) ∙ g.fresh k (omega arith);
-    wide = g.wide;
-    bytes = g.bytes;
-    unvalued = g.unvalued;
-    tall = length-set rows i (set (get_or rows i []) a len) ∙ g.tall;
-    columns = written-rows rows i a len (in_row l) (in-column l la) 16 g.columns;
-    unfilled = λ p b lb h. other-cell len l la p b (λ x y. let z : p * alphabet m + b ≡ i * alphabet m + a = ap₂ (λ (x y : ℕ). x * alphabet m + y) x y in omega arith) ∙ g.unfilled p b lb (omega arith);
-    beside = λ p b h. other-cell len l la p b (λ x y. omega arith) ∙ g.beside p b h;
-  }
+  filling_new s l la e absent room small =
+      cell_filled (set es len s) (len + 1) len l la
+      (subst (λ (xs : List S). Grown m xs (take v vs) (cells_up_to (alphabet m) rows (i * alphabet m + a) ++ len ∷ []) i (a + 1)) (sym (take_more_set es len s room))
+      (subst (λ (c : ℕ). Grown m (take len es ++ s ∷ []) (take v vs) (cells_up_to (alphabet m) rows (i * alphabet m + a) ++ c ∷ []) i (a + 1)) states-long
+      (grown_new g.grown s (omega (arith, states-long)) la (ap (λ (s : S). m.step s a) (state_is i l) ∙ e) (new-state s absent))))
+      (omega arith) (rw (length-set es len s) (omega arith))
+      (λ k h. get_or-set_other es len k s d (λ x. omega arith) ∙ g.fresh k (omega arith))
 
   -- the letter leads to a new state, for which there is no place
   pub filling_over : (s : S) → i < len → a < alphabet m → m.step (get_or es i d) a ≡ s → ((k : ℕ) → k < len → get_or es k d ≡ s → ⊥) → Spread m (len + 1)

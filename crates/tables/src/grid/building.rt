@@ -60,12 +60,14 @@ fn fill_row<M: Machine>(
     ensures listed { i < roll.new.len }
 {
     rows[i].value = machine.value(&roll.as_slice()[i]);
+    // Counted, since a step takes the letter's number.
     for letter in 0..letters {
         let state = machine.step(&roll.as_slice()[i], letter);
         let number = roll.place(state)?;
         if number >= 128 {
             return Err(BuildFault::TooMany);
         }
+        // Below 128 by the line above: u8::try_from would ask once more.
         rows[i].next[letter] = number as u8;
     }
     Ok(())
@@ -87,6 +89,7 @@ fn walk<M: Machine>(
 {
     roll.place(machine.start())?;
     let mut i = 0;
+    // By while: the roll grows as its rows are filled.
     while i < roll.len() {
         fill_row(machine, i, letters, rows, roll)?;
         i += 1;

@@ -74,8 +74,8 @@ fn lay_row(next: &[usize], letters: usize, i: usize) -> [u8; 16]
     ensures { result ≡ row_at letters next.now i }
 {
     let mut row = [0; 16];
-    for a in 0..letters {
-        row[a] = next[i * letters + a] as u8;
+    for (a, state) in next[i * letters..][..letters].iter().enumerate() {
+        row[a] = *state as u8;
     }
     row
 }

@@ -1,4 +1,4 @@
-use Rattle.std.proofs.Common.{◌<◌, length, ◌∙◌, arith, length-take}
+use Rattle.std.proofs.Common.{◌<◌, ◌∙◌, arith, length-take}
 use Rattle.std.proofs.lemmas.List.{length-take-le}
 use Rattle.automata.proofs.ShownLaws.{sign_count}
 use Rattle.tables.proofs.GridLaws.{past_rows, cell_read, next_is}

@@ -1,5 +1,4 @@
-use Rattle.std.proofs.Common.{◌≡◌, ℕ, length, replicate, sym, refl, ap, ◌∙◌, subst, arith}
-use lib.ListN.{length-replicate}
+use Rattle.std.proofs.Common.{ℕ, length, replicate, sym, refl, ap, ◌∙◌, subst, arith}
 use Rattle.rolls.proofs.RollLaws.{keeps_on}
 use Rattle.tables.specs.declared.grid.Grid.{Grid}
 use Rattle.tables.specs.Builds.{Accepted}

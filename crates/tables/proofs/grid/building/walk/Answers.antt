@@ -1,8 +1,7 @@
-use Rattle.std.proofs.Common.{length, Ok, refl, ap, ◌∙◌, arith}
+use Rattle.std.proofs.Common.{refl, ap, arith}
 use Rattle.std.proofs.lemmas.Result.{err_from_is_err_and}
 use Rattle.rolls.proofs.RollLaws.{keeps_on}
 use Rattle.tables.specs.Held.{values_of, cells_of}
-use Rattle.tables.specs.declared.grid.building.BuildFault.{BuildFault}
 use Rattle.tables.proofs.Fillings.{first_filling, first-full}
 use Rattle.tables.proofs.grid.building.walk.Goals as goal
 

@@ -1,5 +1,3 @@
-use Rattle.std.proofs.Common.{length, ap, ◌∙◌}
-use lib.ListN.{length-replicate}
 use Rattle.tables.proofs.Filled.{wiped}
 use Rattle.tables.proofs.grid.building.wipe.Goals as goal
 

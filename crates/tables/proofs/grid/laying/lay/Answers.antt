@@ -1,4 +1,4 @@
-use Rattle.std.proofs.Common.{◌≡◌, ℕ, ◌-◌, ◌*◌, ◌/◌, ◌%◌, ◌≤◌, List, ◌++◌, length, get_or, take, replicate, sym, ap, ◌∙◌, subst, ap₂, arith}
+use Rattle.std.proofs.Common.{◌≡◌, ℕ, ◌*◌, ◌/◌, ◌%◌, ◌≤◌, List, length, get_or, take, replicate, sym, ap, ◌∙◌, subst, ap₂, arith}
 use Rattle.automata.specs.Signs.{BlankPast}
 use Rattle.automata.specs.Held.{Bytes, RowsOf}
 use Rattle.automata.specs.Shown.{sign_bytes}
