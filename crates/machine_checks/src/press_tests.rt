@@ -147,7 +147,7 @@ fn forward_count(text: &[u8]) -> Result<Option<usize>, Fail> {
     let AnyDraft::OfY(draft) = read_draft(text)? else {
         return Ok(None);
     };
-    let mut sets = [Reached::blank(); 128];
+    let mut sets = [Reached::default(); 128];
     let mut table = Table::<Y>::blank(draft.automaton().sign_list());
     match once(&draft, &mut table, &mut Roll::fresh(&mut sets)) {
         Ok(()) => Ok(Some(table.grid().state_count())),
@@ -278,7 +278,7 @@ fn a_draft_and_its_table_are_pressed_to_one_table(rt: HostRuntime) -> Result<(),
     assert!(rt; press_draft(&draft, &mut back, &mut columns_roll, &mut last, &mut chart).is_ok());
     assert_eq!(rt; back.grid().state_count(), 2);
     assert_eq!(rt; last.grid().state_count(), 2);
-    let mut sets = [Reached::blank(); 8];
+    let mut sets = [Reached::default(); 8];
     let mut forward = Table::<M>::blank(signs);
     assert!(rt; once(&draft, &mut forward, &mut Roll::fresh(&mut sets)).is_ok());
     assert_eq!(rt; forward.grid().state_count(), 2);

@@ -85,7 +85,7 @@ pub fn press_text<K: Kind>(
 {
     let mut columns = vec![in heap; Colouring::plain(0); ROOM]?;
     let mut chart = vec![in heap; Colouring::plain(0); ROOM]?;
-    let mut sets = vec![in heap; Reached::blank(); ROOM]?;
+    let mut sets = vec![in heap; Reached::default(); ROOM]?;
     press_in(
         heap,
         letter,

@@ -1,4 +1,4 @@
-pub mod Blanks
 pub mod Differing
 pub mod RollLaws
+pub mod Searching
 pub mod TwoPlaced

@@ -1,47 +1,96 @@
 -- What two placings leave of a roll in which no entry was in use.
-use Rattle.std.proofs.Common.{◌≡◌, ℕ, ◌<◌, false, List, length, get_or, set, is_ok, Ok, Result, sym, ap, ◌∙◌, subst, arith}
-use Rattle.std.proofs.lemmas.List.{length-set, get_or-set_same}
+use Rattle.std.proofs.Common.{◌≡◌, ℕ, ◌<◌, ◌≤◌, true, false, ◌≢◌, ◌⊎◌, List, length, get_or, set, is_ok, Decides, Ok, Result, sym, ap, ◌∙◌, subst, inl, inr, arith}
+use Rattle.std.proofs.lemmas.List.{length-set, get_or-set_same, set_past}
+use Rattle.std.proofs.lemmas.Bool.{both_ways, cases_lt}
 use Rattle.rolls.specs.Rolls.{Different, Absent, Placed}
 use Rattle.rolls.proofs.Differing.{different_none}
 use Rattle.rolls.proofs.RollLaws.{placed_new, placed-again, placed-refused, placed_different}
 
 -- es, n: as the roll was before; es₁, n₁ after x was placed; es₂, n₂ after y was placed too
 module _ {S E : Type 0} (x y d : S) (es : List S) (n : ℕ) (es₁ : List S) (n₁ : ℕ) (es₂ : List S) (n₂ : ℕ) (r s : Result ℕ E)
-    (none : n ≡ 0) (some : 0 < length es) (first : Placed x d es n es₁ n₁ r) (second : Placed y d es₁ n₁ es₂ n₂ s) where
-  pub first-placed : (r ≡ Ok 0) × (es₁ ≡ set es 0 x) × (n₁ ≡ 1)
-  first-placed =
-      let absent : Absent x d es n = λ k h. absurd (omega arith) in
-      let w = placed_new x d es n es₁ n₁ r absent (omega arith) first in
-      (w.0 ∙ ap (λ (k : ℕ). Ok k) none, w.1 ∙ ap (λ k. set es k x) none, omega (arith, w.2))
+    (none : n ≡ 0) (first : Placed x d es n es₁ n₁ r) (second : Placed y d es₁ n₁ es₂ n₂ s) where
+  no-entry : Absent x d es n
+  no-entry k h = absurd (omega arith)
 
-  first-there : get_or es₁ 0 d ≡ x
-  first-there = ap (λ l. get_or l 0 d) first-placed.1 ∙ get_or-set_same es 0 x d some
+  -- the first stands in the first place, where there is one
+  first-placed : 0 < length es → (es₁ ≡ set es 0 x) × (n₁ ≡ 1)
+  first-placed some = let w = placed_new x d es n es₁ n₁ r no-entry (omega arith) first in (w.1 ∙ ap (λ k. set es k x) none, omega (arith, w.2))
+
+  no_place : length es ≡ 0 → (es₁ ≡ es) × (n₁ ≡ 0)
+  no_place full = let w = placed-refused x d es n es₁ n₁ r no-entry (omega arith) first in (w.1, omega (arith, w.2))
+
+  first-there : 0 < length es → get_or es₁ 0 d ≡ x
+  first-there some = ap (λ l. get_or l 0 d) (first-placed some).0 ∙ get_or-set_same es 0 x d some
+
+  first-long : 0 < length es → length es₁ ≡ length es
+  first-long some = ap length (first-placed some).0 ∙ length-set es 0 x
+
+  -- nothing is placed where there is no place
+  refused_all : length es ≡ 0 → (is_ok s ≡ false) × (es₂ ≡ es)
+  refused_all full =
+      let o = no_place full in
+      let w = placed-refused y d es₁ n₁ es₂ n₂ s (λ k h. absurd (omega (arith, o.1))) (omega (arith, o.1, ap length o.0)) second in
+      (w.0, w.1 ∙ o.0)
 
   -- an equal entry is not added again
-  pub equal_placed : x ≡ y → (s ≡ Ok 0) × (es₂ ≡ set es 0 x) × (n₂ ≡ 1)
-  equal_placed e =
+  again : 0 < length es → x ≡ y → (s ≡ Ok 0) × (es₂ ≡ set es 0 x)
+  again some e =
+      let o = first-placed some in
       let before : Different es n = subst (λ (k : ℕ). Different es k) (sym none) (different_none es) in
       let differ : Different es₁ n₁ = placed_different x d es n es₁ n₁ r first before in
-      let w = placed-again y d es₁ n₁ es₂ n₂ s 0 differ (omega (arith, first-placed.2)) (first-there ∙ e) second in
-      (w.0, w.1 ∙ first-placed.1, w.2 ∙ first-placed.2)
+      let w = placed-again y d es₁ n₁ es₂ n₂ s 0 differ (omega (arith, o.1)) (first-there some ∙ e) second in
+      (w.0, w.1 ∙ o.0)
 
-  first_alone : (x ≡ y → ⊥) → Absent y d es₁ n₁
-  first_alone ne k h e =
-      let z : k ≡ 0 = omega (arith, first-placed.2) in
-      ne (sym first-there ∙ ap (λ i. get_or es₁ i d) (sym z) ∙ e)
-
-  first-long : length es₁ ≡ length es
-  first-long = ap length first-placed.1 ∙ length-set es 0 x
+  first_alone : 0 < length es → x ≢ y → Absent y d es₁ n₁
+  first_alone some ne k h e =
+      let z : k ≡ 0 = omega (arith, (first-placed some).1) in
+      ne (sym (first-there some) ∙ ap (λ i. get_or es₁ i d) (sym z) ∙ e)
 
   -- another entry is added behind it
-  pub other_placed : (x ≡ y → ⊥) → 1 < length es → (s ≡ Ok 1) × (es₂ ≡ set (set es 0 x) 1 y) × (n₂ ≡ 2)
-  other_placed ne room =
-      let one = first-placed.2 in
-      let w = placed_new y d es₁ n₁ es₂ n₂ s (first_alone ne) (omega (arith, one, first-long)) second in
-      (w.0 ∙ ap (λ (k : ℕ). Ok k) one, w.1 ∙ ap (λ k. set es₁ k y) one ∙ ap (λ l. set l 1 y) first-placed.1, omega (arith, w.2, one))
+  added : 1 < length es → x ≢ y → (s ≡ Ok 1) × (es₂ ≡ set (set es 0 x) 1 y)
+  added room ne =
+      let some : 0 < length es = omega arith in
+      let o = first-placed some in
+      let w = placed_new y d es₁ n₁ es₂ n₂ s (first_alone some ne) (omega (arith, o.1, first-long some)) second in
+      (w.0 ∙ ap (λ (k : ℕ). Ok k) o.1, w.1 ∙ ap (λ k. set es₁ k y) o.1 ∙ ap (λ l. set l 1 y) o.0)
 
-  -- or is refused, where there is one entry only
-  pub other_refused : (x ≡ y → ⊥) → length es ≡ 1 → (is_ok s ≡ false) × (es₂ ≡ set es 0 x) × (n₂ ≡ 1)
-  other_refused ne full =
-      let w = placed-refused y d es₁ n₁ es₂ n₂ s (first_alone ne) (omega (arith, first-placed.2, first-long)) second in
-      (w.0, w.1 ∙ first-placed.1, w.2 ∙ first-placed.2)
+  -- or is refused, where there is one place only
+  refused : length es ≡ 1 → x ≢ y → (is_ok s ≡ false) × (es₂ ≡ set es 0 x)
+  refused full ne =
+      let some : 0 < length es = omega arith in
+      let o = first-placed some in
+      let w = placed-refused y d es₁ n₁ es₂ n₂ s (first_alone some ne) (omega (arith, o.1, first-long some)) second in
+      (w.0, w.1 ∙ o.0)
+
+  pub equal_placed : x ≡ y → es₂ ≡ set es 0 x
+  equal_placed e =
+      elim (cases_lt 0 (length es)) [
+        | inl some ↦ (again some e).1
+        | inr full ↦ (refused_all (omega arith)).1 ∙ sym (set_past es 0 x (omega arith))
+      ]
+
+  pub other_placed : x ≢ y → es₂ ≡ set (set es 0 x) 1 y
+  other_placed ne =
+      elim (cases_lt 1 (length es)) [
+        | inl room ↦ (added room ne).1
+        | inr full ↦ alone (cases_lt 0 (length es)) full ∙ sym (set_past (set es 0 x) 1 y (simp length-set full))
+      ]
+    where
+      alone : (0 < length es) ⊎ (length es ≤ 0) → length es ≤ 1 → es₂ ≡ set es 0 x
+      alone (inl some) full = (refused (omega arith) ne).1
+      alone (inr none) full = (refused_all (omega arith)).1 ∙ sym (set_past es 0 x (omega arith))
+
+  -- whether both are there
+  pub both_there : (x ≡ y) ⊎ (x ≢ y) → Decides (is_ok s) ((1 ≤ length es) × ((x ≡ y) ⊎ (2 ≤ length es)))
+  both_there which = (λ ok. there which (cases_lt 0 (length es)) (cases_lt 1 (length es)) ok, λ h. held h.0 h.1 which)
+    where
+      there : (x ≡ y) ⊎ (x ≢ y) → (0 < length es) ⊎ (length es ≤ 0) → (1 < length es) ⊎ (length es ≤ 1) → is_ok s ≡ true → (1 ≤ length es) × ((x ≡ y) ⊎ (2 ≤ length es))
+      there w (inr none) room ok = absurd (both_ways (is_ok s) (refused_all (omega arith)).0 ok)
+      there (inl e) (inl some) room ok = (some, inl e)
+      there (inr ne) (inl some) (inl room) ok = (some, inr room)
+      there (inr ne) (inl some) (inr full) ok = absurd (both_ways (is_ok s) (refused (omega arith) ne).0 ok)
+
+      held : 1 ≤ length es → (x ≡ y) ⊎ (2 ≤ length es) → (x ≡ y) ⊎ (x ≢ y) → is_ok s ≡ true
+      held some (inl e) w = ap is_ok (again some e).0
+      held some (inr room) (inl e) = ap is_ok (again some e).0
+      held some (inr room) (inr ne) = ap is_ok (added room ne).0

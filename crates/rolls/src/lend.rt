@@ -1,5 +1,5 @@
 // What a caller that lends entries to a roll knows of them afterwards.
-ghost use Rattle.std.specs.Prelude.{◌≡◌, [], ◌∷◌, length, replicate, is_ok, Decides, ◌≢◌, slice_set};
+ghost use Rattle.std.specs.Prelude.{◌≡◌, ◌≤◌, ◌≢◌, ◌⊎◌, length, replicate, is_ok, Decides, slice_set};
 
 use crate::fault::RollFault;
 use crate::roll::Roll;
@@ -13,22 +13,13 @@ fn lend_any<T: State>(entries: &mut [T], x: T)
     let _ = roll.place(x);
 }
 
-// Two entries placed into three: an equal one is not added again.
-fn lend_three(a: &mut [u64; 3], x: u64, y: u64)
-    ensures equal { x ≡ y → a.new ≡ x ∷ 0 ∷ 0 ∷ [] }
-    ensures apart { (x ≢ y) → a.new ≡ x ∷ y ∷ 0 ∷ [] }
+// Two entries placed: an equal one is not added again, and another is refused where one entry only was lent.
+fn lend_two<T: State>(entries: &mut [T], x: T, y: T) -> Result<usize, RollFault>
+    ensures equal { x ≡ y → entries.new ≡ slice_set (replicate (length entries.old) T.blank) 0 x }
+    ensures apart { (x ≢ y) → entries.new ≡ slice_set (slice_set (replicate (length entries.old) T.blank) 0 x) 1 y }
+    ensures answer { Decides (is_ok result) ((1 ≤ length entries.old) × ((x ≡ y) ⊎ (2 ≤ length entries.old))) }
 {
-    let mut roll = Roll::fresh(a);
-    let _ = roll.place(x);
-    let _ = roll.place(y);
-}
-
-// Two entries placed into one: the second is refused unless it equals the first.
-fn lend_one(a: &mut [u64; 1], x: u64, y: u64) -> Result<usize, RollFault>
-    ensures array { a.new ≡ x ∷ [] }
-    ensures answer { Decides (is_ok result) (x ≡ y) }
-{
-    let mut roll = Roll::fresh(a);
+    let mut roll = Roll::fresh(entries);
     let _ = roll.place(x);
     roll.place(y)
 }

@@ -1,5 +1,5 @@
-ghost use Rattle.std.specs.Prelude.{◌≡◌, ◌≤◌, length, replicate};
-ghost use Rattle.rolls.specs.Rolls.{Addable, Different, Got, Placed, Searched};
+ghost use Rattle.std.specs.Prelude.{◌≡◌, ◌≤◌, length, replicate, take};
+ghost use Rattle.rolls.specs.Rolls.{Addable, Different, Got, KeepsLoan, Placed, Searched};
 
 use crate::fault::RollFault;
 use crate::state::State;
@@ -17,8 +17,9 @@ pub struct Roll<'a, T> {
 fn wipe<T: State>(entries: &mut [T])
     ensures { entries.new ≡ replicate (length entries.old) T.blank }
 {
+    // The checker covers no fill_with(T::default): the function passed names T in its result alone.
     for e in entries.iter_mut() {
-        *e = T::blank();
+        *e = T::default();
     }
 }
 
@@ -35,14 +36,12 @@ impl<'a, T: State> Roll<'a, T> {
 
     // The same again on a roll in use.
     pub fn clear(&mut self)
-        ensures loan { self.new.entries.ghost_name ≡ self.old.entries.ghost_name }
+        ensures loan { KeepsLoan self.old.entries self.new.entries }
         ensures items { self.new.entries.now ≡ replicate (length self.old.entries.now) T.blank }
         ensures len { self.new.len ≡ 0 }
     {
         self.len = 0;
-        for i in 0..self.room() {
-            self.entries[i] = T::blank();
-        }
+        wipe(self.entries);
     }
 
     // How many entries are in use.
@@ -59,16 +58,18 @@ impl<'a, T: State> Roll<'a, T> {
         self.entries.len()
     }
 
+    // The entries in use.
+    pub fn as_slice(&self) -> &[T]
+        ensures { result.now ≡ take self.now.len self.now.entries.now }
+    {
+        &self.entries[..self.len]
+    }
+
     // The entry numbered `i`, if it is in use.
     pub fn get(&self, i: usize) -> Option<&T>
         ensures { Got T.blank self.now.entries.now self.now.len i result }
     {
-        if i < self.len {
-            let es = &*self.entries;
-            Some(&es[i])
-        } else {
-            None
-        }
+        self.as_slice().get(i)
     }
 
     // The number of the first entry in use that equals `x`, or none.
@@ -76,19 +77,13 @@ impl<'a, T: State> Roll<'a, T> {
         ensures first { Searched x.now T.blank self.now.entries.now self.now.len result }
         ensures addable { Addable x.now self.now.entries.now self.now.len result }
     {
-        let es = &*self.entries;
-        for i in 0..self.len {
-            if es[i].same(x) {
-                return Some(i);
-            }
-        }
-        None
+        self.as_slice().iter().position(|e| e == x)
     }
 
     // The number of the entry that equals `x`; where there is none, `x` is added at the end.
     // Refused where `x` is new and no supplied entry is free; the roll is then untouched.
     pub fn place(&mut self, x: T) -> Result<usize, RollFault>
-        ensures loan { self.new.entries.ghost_name ≡ self.old.entries.ghost_name }
+        ensures loan { KeepsLoan self.old.entries self.new.entries }
         ensures placed { Placed x T.blank self.old.entries.now self.old.len self.new.entries.now self.new.len result }
     {
         if let Some(i) = self.position(&x) {

@@ -16,7 +16,7 @@ use Rattle.machines.proofs.Numbers.{row_fits}
 use Rattle.machines.proofs.Growing.{grown_walked}
 use Rattle.machines.proofs.FirstWords.{walked_built}
 use Rattle.tables.specs.declared.grid.Grid.{Grid}
-use Rattle.tables.specs.Held.{cell, RowsBlank}
+use Rattle.tables.specs.Held.{values_of, cells_of, cell, RowsBlank}
 use Rattle.tables.specs.Shown.{shown, Blank}
 use Rattle.tables.specs.Filling.{cells_up_to, Filling}
 use Rattle.tables.specs.Builds.{Accepted, Wiped, Refused}
@@ -43,7 +43,7 @@ module _ {S : Type 0} (m : MachineModel S) (d : S) (es : List S) (len : ℕ) (vs
         | inr past ↦ g.beside i a past
       ]
 
-  pub filled-built : (t : Grid) → t.count ≡ n → t.values ≡ vs → t.next ≡ rows → t.signs.count ≡ alphabet m → Built m (shown t) (take len es)
+  pub filled-built : (t : Grid) → t.count ≡ n → values_of t.rows ≡ vs → cells_of t.rows ≡ rows → t.signs.count ≡ alphabet m → Built m (shown t) (take len es)
   filled-built t c v r k =
       let z : n * alphabet m + 0 ≡ n * alphabet m = omega arith in
       let w = grown_walked g.grown (omega (arith, found)) (length-take-le n vs (omega (arith, g.wide, g.few)) ∙ (e ∙ sym found)) in
@@ -59,10 +59,10 @@ pub letters_are : {S : Type 0} (m : MachineModel S) (signs : Signs) → sign_byt
 letters_are m signs e = sym (sign_count signs) ∙ ap length e
 
 pub accepted : {S : Type 0} (m : MachineModel S) (d : S) (es : List S) (len : ℕ) (n : ℕ) (t : Grid) (signs : Signs) → t.signs ≡ signs → sign_bytes signs ≡ m.signs
-    → t.count ≡ n → n ≡ len → Filling m d es len t.values n t.next n 0 → Accepted m d t es len
+    → t.count ≡ n → n ≡ len → Filling m d es len (values_of t.rows) n (cells_of t.rows) n 0 → Accepted m d t es len
 accepted m d es len n t signs s h c e g = record {
   signs = ap sign_bytes s ∙ h;
-  built = filled-built m d es len t.values n t.next g e t c refl refl (ap (λ (x : Signs). x.count) s ∙ letters_are m signs h);
+  built = filled-built m d es len (values_of t.rows) n (cells_of t.rows) g e t c refl refl (ap (λ (x : Signs). x.count) s ∙ letters_are m signs h);
   listed = sym e ∙ sym c;
   within = g.within;
   blank = g.fresh;

@@ -1,7 +1,9 @@
 -- A table filled value by value and cell by cell.
 use Rattle.std.proofs.Common.{◌≡◌, ℕ, suc, ◌+◌, ◌*◌, ◌/◌, ◌%◌, ◌<◌, ◌≤◌, min, cond, ◌&&◌, eqb, ◌⊎◌, List, [], ◌∷◌, ◌++◌, length, get_or, take, set, replicate, sym, refl, ap, ◌∙◌, subst, ap₂, inl, inr, add-mul, div-add-mod', arith, length-set}
 use lib.ListN.{length-replicate}
-use Rattle.std.proofs.lemmas.List.{get_or-take, get_or_default, get_or_past, get_or-set_other, get_or-replicate, take_more_set, length-take-le}
+use Rattle.std.proofs.lemmas.List.{map-set, get_or-take, get_or_default, get_or_past, get_or-set_other, get_or-replicate, take_more_set, length-take-le}
+use Rattle.std.proofs.Math.ListN.{get_or-map}
+use Rattle.std.proofs.Math.Seq.{map-set_same}
 use Rattle.std.proofs.lemmas.Bool.{cases_eq, cases_lt, eq-eqb, ne_eqb}
 use Rattle.tables.proofs.Written.{written, written-ends, written-rows, set-bytes, set-blank}
 use Rattle.automata.proofs.SignLaws.{decides_counted, accepted-parts}
@@ -10,10 +12,11 @@ use Rattle.machines.specs.Models.{MachineModel, alphabet, Spread}
 use Rattle.machines.specs.Built.{entry}
 use Rattle.machines.proofs.Growing.{Grown, grown-start, grown-value, grown_known, grown_new, grown_row, grown-more}
 use Rattle.rolls.specs.Rolls.{Found, Added, Full}
-use Rattle.tables.specs.Held.{cell}
+use Rattle.tables.specs.declared.grid.row.Row.{Row}
+use Rattle.tables.specs.Held.{values_of, cells_of, cell}
 use Rattle.tables.specs.Filling.{cells_up_to, Filling}
 use Rattle.tables.proofs.Cells.{cell_at}
-use Rattle.tables.proofs.GridLaws.{no_cells, row_none, cell-none}
+use Rattle.tables.proofs.GridLaws.{no_cells, past_rows, row_none, cell-none}
 
 -- there are at most 16 letters
 pub few-letters : {S : Type 0} (m : MachineModel S) → alphabet m ≤ 16
@@ -101,15 +104,14 @@ module _ {S : Type 0} (m : MachineModel S) (d : S) (es : List S) (len : ℕ) (vs
         | inr np ↦ rw (ne_eqb p i np) refl
       ]
 
-  -- the letter leads to a state that is known, number c
-  pub filling_known : (c : ℕ) → i < len → a < alphabet m → c < len → m.step (get_or es i d) a ≡ get_or es c d → Filling m d es len vs v (written rows i a c) i (a + 1)
-  filling_known c l la lc e = record {
-    grown = subst (λ (cs : List ℕ). Grown m (take len es) (take v vs) cs i (a + 1)) (sym (cells-more (alphabet m) rows i a c la (in_row l) (in-column l la)))
-        (grown_known g.grown c (omega (arith, states-long)) la (omega (arith, states-long))
-        (ap (λ (s : S). m.step s a) (state_is i l) ∙ (e ∙ sym (state_is c lc))));
-    few = g.few;
-    within = g.within;
-    fresh = g.fresh;
+  -- a cell is written, where es' are the states from here on
+  cell_filled : (es' : List S) (len' c : ℕ) → i < len → a < alphabet m → Grown m (take len' es') (take v vs) (cells_up_to (alphabet m) rows (i * alphabet m + a) ++ c ∷ []) i (a + 1)
+      → len' ≤ 128 → len' ≤ length es' → ((k : ℕ) → len' ≤ k → get_or es' k d ≡ d) → Filling m d es' len' vs v (written rows i a c) i (a + 1)
+  cell_filled es' len' c l la grown few within fresh = record {
+    grown = subst (λ (cs : List ℕ). Grown m (take len' es') (take v vs) cs i (a + 1)) (sym (cells-more (alphabet m) rows i a c la (in_row l) (in-column l la))) grown;
+    few = few;
+    within = within;
+    fresh = fresh;
     wide = g.wide;
     bytes = g.bytes;
     unvalued = g.unvalued;
@@ -119,6 +121,13 @@ module _ {S : Type 0} (m : MachineModel S) (d : S) (es : List S) (len : ℕ) (vs
     beside = λ p b h. other-cell c l la p b (λ x y. omega arith) ∙ g.beside p b h;
   }
 
+  -- the letter leads to a state that is known, number c
+  pub filling_known : (c : ℕ) → i < len → a < alphabet m → c < len → m.step (get_or es i d) a ≡ get_or es c d → Filling m d es len vs v (written rows i a c) i (a + 1)
+  filling_known c l la lc e =
+      cell_filled es len c l la
+      (grown_known g.grown c (omega (arith, states-long)) la (omega (arith, states-long)) (ap (λ (s : S). m.step s a) (state_is i l) ∙ (e ∙ sym (state_is c lc))))
+      g.few g.within g.fresh
+
   -- none of the states found so far is s
   new-state : (s : S) → ((k : ℕ) → k < len → get_or es k d ≡ s → ⊥) → (j : ℕ) → j < length (take len es) → entry m (take len es) j ≡ s → ⊥
   new-state s absent j l e = let lj : j < len = omega (arith, states-long) in absent j lj (sym (state_is j lj) ∙ e)
@@ -126,22 +135,13 @@ module _ {S : Type 0} (m : MachineModel S) (d : S) (es : List S) (len : ℕ) (vs
   -- the letter leads to a new state, which was added
   pub filling_new : (s : S) → i < len → a < alphabet m → m.step (get_or es i d) a ≡ s → ((k : ℕ) → k < len → get_or es k d ≡ s → ⊥) → len < length es → len < 128
       → Filling m d (set es len s) (len + 1) vs v (written rows i a len) i (a + 1)
-  filling_new s l la e absent room small = record {
-    grown = subst (λ (xs : List S). Grown m xs (take v vs) (cells_up_to (alphabet m) (written rows i a len) (i * alphabet m + (a + 1))) i (a + 1)) (sym (take_more_set es len s room))
-        (subst (λ (cs : List ℕ). Grown m (take len es ++ s ∷ []) (take v vs) cs i (a + 1))
-        (ap (λ (c : ℕ). cells_up_to (alphabet m) rows (i * alphabet m + a) ++ c ∷ []) states-long ∙ sym (cells-more (alphabet m) rows i a len la (in_row l) (in-column l la)))
-        (grown_new g.grown s (omega (arith, states-long)) la (ap (λ (s : S). m.step s a) (state_is i l) ∙ e) (new-state s absent)));
-    few = omega arith;
-    within = rw (length-set es len s) (omega arith);
-    fresh = λ k h. get_or-set_other es len k s d (λ x. omega arith) ∙ g.fresh k (omega arith);
-    wide = g.wide;
-    bytes = g.bytes;
-    unvalued = g.unvalued;
-    tall = length-set rows i (set (get_or rows i []) a len) ∙ g.tall;
-    columns = written-rows rows i a len (in_row l) (in-column l la) 16 g.columns;
-    unfilled = λ p b lb h. other-cell len l la p b (λ x y. let z : p * alphabet m + b ≡ i * alphabet m + a = ap₂ (λ (x y : ℕ). x * alphabet m + y) x y in omega arith) ∙ g.unfilled p b lb (omega arith);
-    beside = λ p b h. other-cell len l la p b (λ x y. omega arith) ∙ g.beside p b h;
-  }
+  filling_new s l la e absent room small =
+      cell_filled (set es len s) (len + 1) len l la
+      (subst (λ (xs : List S). Grown m xs (take v vs) (cells_up_to (alphabet m) rows (i * alphabet m + a) ++ len ∷ []) i (a + 1)) (sym (take_more_set es len s room))
+      (subst (λ (c : ℕ). Grown m (take len es ++ s ∷ []) (take v vs) (cells_up_to (alphabet m) rows (i * alphabet m + a) ++ c ∷ []) i (a + 1)) states-long
+      (grown_new g.grown s (omega (arith, states-long)) la (ap (λ (s : S). m.step s a) (state_is i l) ∙ e) (new-state s absent))))
+      (omega arith) (rw (length-set es len s) (omega arith))
+      (λ k h. get_or-set_other es len k s d (λ x. omega arith) ∙ g.fresh k (omega arith))
 
   -- the letter leads to a new state, for which there is no place
   pub filling_over : (s : S) → i < len → a < alphabet m → m.step (get_or es i d) a ≡ s → ((k : ℕ) → k < len → get_or es k d ≡ s → ⊥) → Spread m (len + 1)
@@ -241,3 +241,25 @@ module _ {S : Type 0} (m : MachineModel S) (d s : S) (es : List S) (len : ℕ) (
   first-full f =
       let z : 1 ≡ suc (min 128 (length es')) = omega (arith, f.full, ap length f.kept) in
       subst (Spread m) z (start-spread m)
+
+-- An entry of the roll's slice of states in use is that entry of the roll.
+pub in_use : {S : Type 0} (d x : S) (used es : List S) (n i : ℕ) → x ≡ get_or used i x → used ≡ take n es → n ≤ length es → i < n → x ≡ get_or es i d
+in_use d x used es n i e h w l = e ∙ (ap (λ xs. get_or xs i x) h ∙ (get_or-take n es i x l ∙ get_or_default es i x d (omega arith)))
+
+-- A filling of rows, where a value or a cell is written to one of them.
+module _ {S : Type 0} (m : MachineModel S) (d : S) (es : List S) (len v : ℕ) (rows : List Row) (i a : ℕ) where
+  pub value-written : (x : ℕ) → Filling m d es len (set (values_of rows) i x) v (cells_of rows) i a
+      → Filling m d es len (values_of (set rows i (record { value = x; next = (get_or rows i past_rows).next }))) v (cells_of (set rows i (record { value = x; next = (get_or rows i past_rows).next }))) i a
+  value-written x g =
+      let row : Row = record { value = x; next = (get_or rows i past_rows).next } in
+      subst (λ (vs : List ℕ). Filling m d es len vs v (cells_of (set rows i row)) i a) (sym (map-set (λ r. r.value) rows i row))
+      (subst (λ (cs : List (List ℕ)). Filling m d es len (set (values_of rows) i x) v cs i a) (sym (map-set_same (λ r. r.next) rows i row past_rows refl)) g)
+
+  pub cell-written : (b c : ℕ) → Filling m d es len (values_of rows) v (written (cells_of rows) i b c) i a
+      → Filling m d es len (values_of (set rows i (record { value = (get_or rows i past_rows).value; next = set (get_or rows i past_rows).next b c }))) v
+      (cells_of (set rows i (record { value = (get_or rows i past_rows).value; next = set (get_or rows i past_rows).next b c }))) i a
+  cell-written b c g =
+      let row : Row = record { value = (get_or rows i past_rows).value; next = set (get_or rows i past_rows).next b c } in
+      let there : set (get_or (cells_of rows) i []) b c ≡ set (get_or rows i past_rows).next b c = ap (λ (r : List ℕ). set r b c) (get_or-map (λ r. r.next) rows i past_rows) in
+      subst (λ (vs : List ℕ). Filling m d es len vs v (cells_of (set rows i row)) i a) (sym (map-set_same (λ r. r.value) rows i row past_rows refl))
+      (subst (λ (cs : List (List ℕ)). Filling m d es len (values_of rows) v cs i a) (ap (set (cells_of rows) i) there ∙ sym (map-set (λ r. r.next) rows i row)) g)

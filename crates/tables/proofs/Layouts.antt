@@ -1,7 +1,7 @@
 -- Cells that are laid row after row, and that a grid shows them again.
-use Rattle.std.proofs.Common.{◌≡◌, ℕ, ◌+◌, ◌-◌, ◌*◌, ◌/◌, ◌%◌, ◌<◌, ◌≤◌, true, List, [], ◌∷◌, ◌++◌, length, get_or, take, replicate, None, Option, sym, refl, ap, ◌∙◌, inl, inr, arith, length-append}
+use Rattle.std.proofs.Common.{◌≡◌, ℕ, ◌+◌, ◌*◌, ◌/◌, ◌%◌, ◌<◌, ◌≤◌, true, List, [], ◌∷◌, length, get_or, take, replicate, None, Option, sym, ap, ◌∙◌, inl, inr, arith}
 use lib.ListN.{length-replicate}
-use Rattle.std.proofs.lemmas.List.{get_or_append_left, get_or-append_right, get_or-replicate, get_or_past, get_or_default, take_at}
+use Rattle.std.proofs.lemmas.List.{ext_get_or, get_or-take, length-take-le, get_or-replicate, get_or_past, get_or_default}
 use Rattle.std.proofs.lemmas.Bool.{cases_lt, ltb-true, leb-true, eqb-true, and_parts}
 use Rattle.kinds.specs.Kinds.{KindModel}
 use Rattle.automata.specs.declared.faults.SignFault.{SignFault}
@@ -38,30 +38,32 @@ no_fault K signs c vs next n e s h b a =
 -- values in 128 places
 module _ (vs : List ℕ) (few : length vs ≤ 128) where
   abbrev places : List ℕ
-  places = vs ++ replicate (128 - length vs) 0
+  places = padded 128 0 (length vs) (λ k. get_or vs k 0)
 
   pub places-length : length places ≡ 128
-  places-length = length-append vs _ ∙ (ap (λ (m : ℕ). length vs + m) (length-replicate (128 - length vs) 0) ∙ (omega arith))
+  places-length = padded-length 128 0 (λ k. get_or vs k 0) (length vs)
 
   pub places-blank : BlankPast places (length vs)
-  places-blank k g = get_or-append_right vs (replicate (128 - length vs) 0) (length vs) k 0 refl g ∙ zeros (128 - length vs) (k - length vs)
-    where
-      zeros : (m k : ℕ) → get_or {A = ℕ} (replicate m 0) k 0 ≡ 0
-      zeros m k = elim (cases_lt k m) [ inl l ↦ get_or-replicate m k 0 0 l | inr h ↦ get_or_past (replicate m 0) k 0 (simp length-replicate h) ]
+  places-blank k g = padded-past 128 0 (λ k. get_or vs k 0) (length vs) k g
+
+  places-at : (k : ℕ) → k < length vs → get_or places k 0 ≡ get_or vs k 0
+  places-at k l = padded-at 128 0 (λ k. get_or vs k 0) (length vs) k l few
 
   pub places-bytes : Bytes vs → Bytes places
   places-bytes h k =
       elim (cases_lt k (length vs)) [
-        | inl l ↦ let e = get_or_append_left vs (replicate (128 - length vs) 0) 0 k l in omega (arith, h k, e)
+        | inl l ↦ let e = places-at k l in omega (arith, h k, e)
         | inr g ↦ let e = places-blank k g in omega arith
       ]
 
   pub places-front : take (length vs) places ≡ vs
-  places-front = take_at vs (replicate (128 - length vs) 0) (length vs) refl
+  places-front =
+      let long : length (take (length vs) places) ≡ length vs = length-take-le (length vs) places (omega (arith, places-length)) in
+      ext_get_or 0 (take (length vs) places) vs long (λ k l. let lk : k < length vs = omega (arith, long) in get_or-take (length vs) places k 0 lk ∙ places-at k lk)
 
 -- cells in 128 rows of 16
 module _ (n c : ℕ) (next : List ℕ) (few : c ≤ 128) (narrow : n ≤ 16) (long : length next ≡ c * n) where
-  abbrev laid : List (List ℕ)
+  abbrev pub laid : List (List ℕ)
   laid = padded 128 (replicate 16 0) c (row_at n next)
 
   pub laid_length : length laid ≡ 128

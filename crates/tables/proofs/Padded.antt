@@ -1,9 +1,11 @@
 -- Lists of a fixed length whose first places hold the values of a function, and tests of all places of a list.
-use Rattle.std.proofs.Common.{◌≡◌, ℕ, ◌+◌, ◌<◌, ◌≤◌, Bool, true, false, cond, ltb, length, get_or, set, replicate, Decides, sym, refl, ap, ◌∙◌, inl, inr, arith, length-set}
+use Rattle.std.proofs.Common.{◌≡◌, ℕ, ◌+◌, ◌<◌, ◌≤◌, Bool, true, false, cond, ltb, List, length, get_or, set, replicate, Decides, sym, refl, ap, ◌∙◌, inl, inr, arith, length-set}
 use lib.ListN.{length-replicate}
 use Rattle.std.proofs.lemmas.List.{get_or-set_same, get_or-set_other, get_or-replicate}
 use Rattle.std.proofs.lemmas.Bool.{cases_lt, cases_eq, cases_Bool, both_ways, lt-ltb, le-ltb, cond-true, cond-false}
 use Rattle.std.proofs.lemmas.Bool.Decides.{Decides-below_and}
+use Rattle.std.specs.Bool.{MatchBool}
+use Rattle.std.specs.List.{AllWithin, HoldsAt}
 use Rattle.automata.specs.Tests.{every}
 use Rattle.drafts.proofs.Tabulates.{length-tabulate, get_d_tabulate, get_or_tabulate_past, is_tabulate}
 use Rattle.tables.specs.Laying.{padded}
@@ -61,3 +63,9 @@ every-at n f = (decides_every f (λ k. f k ≡ true) (λ k. ((λ e. e), λ e. e)
 
 pub every-false : (n : ℕ) (f : ℕ → Bool) (k : ℕ) → k < n → f k ≡ false → false ≡ every n f
 every-false n f k l h = elim (cases_Bool (every n f)) [ inl t ↦ absurd (both_ways _ h (every-at n f t k l)) | inr e ↦ sym e ]
+
+-- the answer of `all` over a list
+pub every_is : (xs : List ℕ) (f : ℕ → Bool) (r : Bool) → MatchBool r (AllWithin (λ x. f x ≡ true) xs 0 (length xs)) ((k : ℕ) × (k < length xs) × HoldsAt (λ x. f x ≡ false) xs k)
+    → r ≡ every (length xs) (λ k. f (get_or xs k 0))
+every_is xs f true m = every_true (length xs) (λ k. f (get_or xs k 0)) (λ k l. m k 0 (omega arith) l)
+every_is xs f false m = every-false (length xs) (λ k. f (get_or xs k 0)) m.0 m.1 (m.2 0)

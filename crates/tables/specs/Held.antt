@@ -1,5 +1,17 @@
 -- What the fields of every grid keep: cells lead to states, and nothing lies past the counts.
-use Rattle.std.specs.Prelude.{◌≡◌, ℕ, ◌<◌, ◌≤◌, List, [], slice_index, slice_index_or}
+use Rattle.std.specs.Prelude.{◌≡◌, ℕ, ◌<◌, ◌≤◌, List, [], map, replicate, slice_index, slice_index_or}
+use Rattle.tables.specs.declared.grid.row.Row.{Row}
+
+-- the values of rows, and their next states
+abbrev pub values_of : List Row → List ℕ
+values_of rows = map (λ r. r.value) rows
+
+abbrev pub cells_of : List Row → List (List ℕ)
+cells_of rows = map (λ r. r.next) rows
+
+-- 128 rows in which nothing but 0 stands
+abbrev pub no_rows : List Row
+no_rows = replicate 128 (record { value = 0; next = replicate 16 0 })
 
 -- the cell in row i under the letter a
 abbrev pub cell : List (List ℕ) → ℕ → ℕ → ℕ

@@ -1,5 +1,5 @@
 -- Tables that are laid out cell by cell: the questions that are asked, and what is made.
-use Rattle.std.specs.Prelude.{◌≡◌, ℕ, ◌+◌, ◌*◌, Bool, cond, ◌&&◌, ltb, List, [], ◌∷◌, length, Some, None, Ok, Err, Option, Result, ◌==◌, nat_le, nat_lt, slice_index}
+use Rattle.std.specs.Prelude.{◌≡◌, ℕ, ◌+◌, ◌*◌, Bool, cond, ◌&&◌, List, [], ◌∷◌, length, Some, None, Ok, Err, Option, Result, ◌==◌, nat_le, nat_lt, slice_index}
 use Rattle.kinds.specs.Kinds.{KindModel}
 use Rattle.automata.specs.declared.faults.SignFault.{SignFault}
 use Rattle.automata.specs.Signs.{sign_fault_number, sign_fault}
@@ -23,7 +23,7 @@ shaped n count values cells = nat_le 1 count && (nat_le count 128 && (values == 
 
 -- each next state is below the count
 abbrev pub all_below : ℕ → List ℕ → Bool
-all_below count next = every (length next) (λ k. ltb (slice_index next k) count)
+all_below count next = every (length next) (λ k. nat_lt (slice_index next k) count)
 
 -- each value is admitted
 abbrev pub admits_all : KindModel → List ℕ → Bool

@@ -4,12 +4,12 @@ use Rattle.automata.specs.declared.signs.Signs.{Signs}
 use Rattle.drafts.specs.Words.{tabulate}
 use Rattle.machines.specs.Tables.{TableModel}
 use Rattle.tables.specs.declared.grid.Grid.{Grid}
-use Rattle.tables.specs.Held.{cell}
+use Rattle.tables.specs.Held.{values_of, cells_of, cell}
 
 abbrev pub shown : Grid → TableModel
 shown t = record {
-  values = take t.count t.values;
-  cells = tabulate (t.count * t.signs.count) (λ k. cell t.next (k / t.signs.count) (k % t.signs.count));
+  values = take t.count (values_of t.rows);
+  cells = tabulate (t.count * t.signs.count) (λ k. cell (cells_of t.rows) (k / t.signs.count) (k % t.signs.count));
 }
 
 -- one state with this value, which leads to itself

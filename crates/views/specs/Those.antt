@@ -1,6 +1,7 @@
 -- Sets of the states that pass a test.
-use Rattle.std.specs.Prelude.{ℕ, zero, suc, ◌+◌, ◌*◌, ◌^◌, ◌<◌, Bool, true, false, cond, ◌&&◌, nat_lt}
-use Rattle.std.proofs.Common.{pow-suc, arith}
+use Rattle.std.specs.Prelude.{◌≡◌, ℕ, zero, suc, ◌+◌, ◌*◌, ◌^◌, ◌<◌, Bool, true, false, cond, ◌&&◌, nat_lt}
+use Rattle.std.proofs.Common.{ap, pow-suc, arith}
+use Rattle.automata.proofs.SetLaws.{set_bits}
 use Rattle.automata.specs.declared.sets.StateSet.{StateSet}
 use Rattle.views.specs.declared.states.Reached.{Reached}
 
@@ -24,3 +25,7 @@ those n f = record { bits = bits_of 32 (λ q. nat_lt q n && f q); small = bits_s
 
 abbrev pub reached_set : StateSet → Reached
 reached_set s = record { set = s }
+
+-- two sets with the same members have the same bits
+pub same_reached : (x y : Reached) → x.set.bits ≡ y.set.bits → x ≡ y
+same_reached x y e = ap reached_set (set_bits x.set y.set e)

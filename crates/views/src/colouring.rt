@@ -5,7 +5,7 @@ use kinds::kind::Kind;
 use std::array;
 
 // A code for each of 128 places.
-#[derive(Clone, Copy)]
+#[derive(Clone, Copy, PartialEq, Eq)]
 pub struct Colouring {
     pub codes: [u8; 128],
 }

@@ -1,30 +1,43 @@
-ghost use Rattle.std.specs.Prelude.{◌≡◌, Decides};
+ghost use Rattle.std.specs.Prelude.{◌≡◌};
+ghost use Rattle.std.proofs.Common.{rules};
 ghost use Rattle.automata.specs.Sets.{no_states};
 ghost use Rattle.views.specs.Colourings.{plain};
-ghost use Rattle.views.specs.Those.{reached_set};
+ghost use Rattle.views.specs.Those.{reached_set, same_reached};
 
 use crate::colouring::Colouring;
 use automata::sets::StateSet;
 use rolls::state::State;
 
 // The set of the states to which a word may have led, as one state of a machine.
-#[derive(Clone, Copy)]
+#[derive(Clone, Copy, PartialEq, Eq)]
 pub struct Reached {
     pub set: StateSet,
+}
+
+impl Default for Reached {
+    ghost is_default = { λ x. x ≡ reached_set no_states };
+
+    fn default() -> Reached {
+        Reached {
+            set: StateSet::empty(),
+        }
+    }
 }
 
 // Two sets with the same members have the same bits.
 impl State for Reached {
     ghost blank = { reached_set no_states };
 
-    fn blank() -> Reached {
-        Reached {
-            set: StateSet::empty(),
-        }
-    }
+    ghost exact = { Prim.search (rules, same_reached) };
 
-    fn same(&self, other: &Reached) -> bool {
-        self.set == other.set
+    ghost default_blank = { Prim.search rules };
+}
+
+impl Default for Colouring {
+    ghost is_default = { λ x. x ≡ plain 0 };
+
+    fn default() -> Colouring {
+        Colouring::plain(0)
     }
 }
 
@@ -32,11 +45,7 @@ impl State for Reached {
 impl State for Colouring {
     ghost blank = { plain 0 };
 
-    fn blank() -> Colouring {
-        Colouring::plain(0)
-    }
+    ghost exact = { Prim.search rules };
 
-    fn same(&self, other: &Colouring) -> bool {
-        self.codes == other.codes
-    }
+    ghost default_blank = { Prim.search rules };
 }

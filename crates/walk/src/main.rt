@@ -85,7 +85,7 @@ fn print_refusal(rt: &HostRuntime, refusal: Refusal) -> anyhow::Result<()> {
 
 fn walk<K: Kind>(rt: &HostRuntime, draft: &Draft<K>) -> anyhow::Result<()> {
     let machine = ForwardDraft { draft };
-    let mut entries = vec![in rt.alloc(); Reached::blank(); 128]?;
+    let mut entries = vec![in rt.alloc(); Reached::default(); 128]?;
     let mut table = Table::<K>::blank(draft.automaton().sign_list());
     let mut roll = Roll::fresh(entries.as_mut_slice());
     match build(&machine, &mut table, &mut roll) {

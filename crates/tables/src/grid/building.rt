@@ -2,12 +2,15 @@
 ghost use Rattle.std.specs.Prelude.{◌≡◌, ◌<◌, ◌≤◌, length, replicate, slice_index_or};
 ghost use Rattle.automata.specs.Shown.{sign_bytes};
 ghost use Rattle.machines.specs.Models.{alphabet};
+ghost use Rattle.rolls.specs.Rolls.{KeepsLoan};
 ghost use Rattle.tables.specs.Builds.{build_fault_number, Ended, Wiped};
 ghost use Rattle.tables.specs.Filling.{Filling};
+ghost use Rattle.tables.specs.Held.{values_of, cells_of, no_rows};
 ghost use Rattle.tables.specs.Steps.{RowEnd, WalkEnd};
 ghost use Rattle.tables.specs.declared.grid.building.BuildFault.{BuildFault};
 
-use crate::grid::Grid;
+use crate::grid::row::Row;
+use crate::grid::{Grid, no_rows};
 use crate::table::Table;
 use automata::signs::Signs;
 use kinds::kind::Kind;
@@ -41,53 +44,31 @@ impl From<RollFault> for BuildFault {
     }
 }
 
-// The value of state i of the roll.
-fn value_of<M: Machine>(machine: &M, roll: &Roll<'_, M::State>, i: usize) -> u8
-    requires { i < roll.now.len }
-    ensures { result ≡ (M.meaning machine.now).value (slice_index_or roll.now.entries.now i M.State.State.blank) }
-{
-    match roll.get(i) {
-        Some(state) => machine.value(state),
-        None => 0,
-    }
-}
-
-// Where a letter leads from state i of the roll.
-fn step_of<M: Machine>(machine: &M, roll: &Roll<'_, M::State>, i: usize, letter: usize) -> M::State
-    requires { i < roll.now.len }
-    ensures { result ≡ (M.meaning machine.now).step (slice_index_or roll.now.entries.now i M.State.State.blank) letter }
-{
-    match roll.get(i) {
-        Some(state) => machine.step(state, letter),
-        None => M::State::blank(),
-    }
-}
-
 // The value and the next states of state i; new states go to the end of the roll.
 fn fill_row<M: Machine>(
     machine: &M,
     i: usize,
     letters: usize,
-    values: &mut [u8; 128],
-    next: &mut [[u8; 16]; 128],
+    rows: &mut [Row; 128],
     roll: &mut Roll<'_, M::State>,
 ) -> Result<(), BuildFault>
     requires letters { letters ≡ alphabet (M.meaning machine.now) }
     requires listed { i < roll.old.len }
-    requires filling { Filling (M.meaning machine.now) M.State.State.blank roll.old.entries.now roll.old.len values.old i next.old i 0 }
-    ensures loan { roll.new.entries.ghost_name ≡ roll.old.entries.ghost_name }
-    ensures long { length roll.new.entries.now ≡ length roll.old.entries.now }
-    ensures ended { RowEnd (M.meaning machine.now) M.State.State.blank roll.new.entries.now roll.new.len values.new next.new i result }
+    requires filling { Filling (M.meaning machine.now) M.State.State.blank roll.old.entries.now roll.old.len (values_of rows.old) i (cells_of rows.old) i 0 }
+    ensures loan { KeepsLoan roll.old.entries roll.new.entries }
+    ensures ended { RowEnd (M.meaning machine.now) M.State.State.blank roll.new.entries.now roll.new.len (values_of rows.new) (cells_of rows.new) i result }
     ensures listed { i < roll.new.len }
 {
-    values[i] = value_of(machine, roll, i);
+    rows[i].value = machine.value(&roll.as_slice()[i]);
+    // Counted, since a step takes the letter's number.
     for letter in 0..letters {
-        let state = step_of(machine, roll, i, letter);
+        let state = machine.step(&roll.as_slice()[i], letter);
         let number = roll.place(state)?;
         if number >= 128 {
             return Err(BuildFault::TooMany);
         }
-        next[i][letter] = number as u8;
+        // Below 128 by the line above: u8::try_from would ask once more.
+        rows[i].next[letter] = number as u8;
     }
     Ok(())
 }
@@ -96,23 +77,21 @@ fn fill_row<M: Machine>(
 fn walk<M: Machine>(
     machine: &M,
     letters: usize,
-    values: &mut [u8; 128],
-    next: &mut [[u8; 16]; 128],
+    rows: &mut [Row; 128],
     roll: &mut Roll<'_, M::State>,
 ) -> Result<usize, BuildFault>
     requires letters { letters ≡ alphabet (M.meaning machine.now) }
-    requires blank_values { values.old ≡ replicate 128 0 }
-    requires blank_next { next.old ≡ replicate 128 (replicate 16 0) }
+    requires blank_rows { rows.old ≡ no_rows }
     requires blank_roll { roll.old.entries.now ≡ replicate (length roll.old.entries.now) M.State.State.blank }
     requires unlisted { roll.old.len ≡ 0 }
-    ensures loan { roll.new.entries.ghost_name ≡ roll.old.entries.ghost_name }
-    ensures long { length roll.new.entries.now ≡ length roll.old.entries.now }
-    ensures ended { WalkEnd (M.meaning machine.now) M.State.State.blank roll.new.entries.now roll.new.len values.new next.new result }
+    ensures loan { KeepsLoan roll.old.entries roll.new.entries }
+    ensures ended { WalkEnd (M.meaning machine.now) M.State.State.blank roll.new.entries.now roll.new.len (values_of rows.new) (cells_of rows.new) result }
 {
     roll.place(machine.start())?;
     let mut i = 0;
+    // By while: the roll grows as its rows are filled.
     while i < roll.len() {
-        fill_row(machine, i, letters, values, next, roll)?;
+        fill_row(machine, i, letters, rows, roll)?;
         i += 1;
     }
     Ok(i)
@@ -120,8 +99,7 @@ fn walk<M: Machine>(
 
 // Leaves a blank table with these signs, and an empty and blank roll.
 pub fn wipe<K: Kind, T: State>(signs: Signs, table: &mut Table<K>, roll: &mut Roll<'_, T>)
-    ensures loan { roll.new.entries.ghost_name ≡ roll.old.entries.ghost_name }
-    ensures long { length roll.new.entries.now ≡ length roll.old.entries.now }
+    ensures loan { KeepsLoan roll.old.entries roll.new.entries }
     ensures wiped { Wiped (sign_bytes signs) K.Kind.model.none T.State.blank table.new.grid roll.new.entries.now roll.new.len }
 {
     *table = Table::blank(signs);
@@ -136,22 +114,15 @@ pub fn build<M: Machine>(
     table: &mut Table<M::Kind>,
     roll: &mut Roll<'_, M::State>,
 ) -> Result<(), BuildFault>
-    ensures loan { roll.new.entries.ghost_name ≡ roll.old.entries.ghost_name }
-    ensures long { length roll.new.entries.now ≡ length roll.old.entries.now }
+    ensures loan { KeepsLoan roll.old.entries roll.new.entries }
     ensures ended { Ended (M.meaning machine.now) M.State.State.blank table.new.grid roll.new.entries.now roll.new.len result }
 {
     let signs = machine.signs();
-    let mut values = [0; 128];
-    let mut next = [[0; 16]; 128];
+    let mut rows = no_rows();
     roll.clear();
-    match walk(machine, signs.len(), &mut values, &mut next, roll) {
+    match walk(machine, signs.len(), &mut rows, roll) {
         Ok(count) => {
-            let grid = Grid {
-                signs,
-                count,
-                values,
-                next,
-            };
+            let grid = Grid { signs, count, rows };
             *table = Table::of(grid);
             Ok(())
         }

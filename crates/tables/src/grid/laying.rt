@@ -1,9 +1,11 @@
 // A table from its cells.
 ghost use Rattle.std.specs.Prelude.{◌≡◌, ℕ, ◌+◌, ◌-◌, ◌*◌, ◌<◌, ◌≤◌, ◌++◌, length, replicate, slice_index};
+ghost use Rattle.tables.specs.Held.{values_of, cells_of};
 ghost use Rattle.tables.specs.Laying.{lay_fault_number, shaped, all_below, admits_all, Laid, padded, row_at};
 ghost use Rattle.tables.specs.declared.grid.laying.LayFault.{LayFault};
 
-use crate::grid::Grid;
+use crate::grid::row::Row;
+use crate::grid::{Grid, no_rows};
 use crate::table::Table;
 use automata::faults::SignFault;
 use automata::signs::Signs;
@@ -54,34 +56,14 @@ fn is_shaped(letters: usize, count: usize, values: usize, cells: usize) -> bool
 fn all_below(next: &[usize], count: usize) -> bool
     ensures { result ≡ all_below count next.now }
 {
-    for k in 0..next.len() {
-        if next[k] >= count {
-            return false;
-        }
-    }
-    true
+    next.iter().all(|state| *state < count)
 }
 
 // Whether each value is admitted.
 fn all_admitted<K: Kind>(values: &[u8]) -> bool
     ensures { result ≡ admits_all K.model values.now }
 {
-    for k in 0..values.len() {
-        if !K::admits(values[k]) {
-            return false;
-        }
-    }
-    true
-}
-
-// The values in 128 places, with 0 in those that are left.
-fn lay_values(values: &[u8]) -> [u8; 128]
-    requires { length values.now ≤ 128 }
-    ensures { result ≡ values.now ++ replicate (128 - length values.now) 0 }
-{
-    let mut places = [0; 128];
-    places[0..values.len()].copy_from_slice(values);
-    places
+    values.iter().all(|value| K::admits(*value))
 }
 
 // Row i in 16 places.
@@ -92,23 +74,27 @@ fn lay_row(next: &[usize], letters: usize, i: usize) -> [u8; 16]
     ensures { result ≡ row_at letters next.now i }
 {
     let mut row = [0; 16];
-    for a in 0..letters {
-        row[a] = next[i * letters + a] as u8;
+    for (a, state) in next[i * letters..][..letters].iter().enumerate() {
+        row[a] = *state as u8;
     }
     row
 }
 
-// All rows, in 128 places.
-fn lay_rows(next: &[usize], letters: usize, count: usize) -> [[u8; 16]; 128]
+// A row for each value, in 128 places.
+fn lay_rows(values: &[u8], next: &[usize], letters: usize) -> [Row; 128]
     requires few { letters ≤ 16 }
-    requires states { count ≤ 128 }
-    requires within { length next.now ≡ count * letters }
+    requires states { length values.now ≤ 128 }
+    requires within { length next.now ≡ length values.now * letters }
     requires small { (k : ℕ) → k < length next.now → slice_index next.now k < 128 }
-    ensures { result ≡ padded 128 (replicate 16 0) count (row_at letters next.now) }
+    ensures values { values_of result ≡ padded 128 0 (length values.now) (λ k. slice_index values.now k) }
+    ensures cells { cells_of result ≡ padded 128 (replicate 16 0) (length values.now) (row_at letters next.now) }
 {
-    let mut rows = [[0; 16]; 128];
-    for i in 0..count {
-        rows[i] = lay_row(next, letters, i);
+    let mut rows = no_rows();
+    for (i, value) in values.iter().enumerate() {
+        rows[i] = Row {
+            value: *value,
+            next: lay_row(next, letters, i),
+        };
     }
     rows
 }
@@ -137,8 +123,7 @@ pub fn lay<K: Kind>(
     let grid = Grid {
         signs,
         count,
-        values: lay_values(values),
-        next: lay_rows(next, letters, count),
+        rows: lay_rows(values, next, letters),
     };
     Ok(Table::of(grid))
 }

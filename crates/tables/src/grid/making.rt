@@ -1,18 +1,21 @@
-ghost use Rattle.std.specs.Prelude.{◌≡◌, ◌&&◌, ltb, ◌∷◌, length, replicate, if◌then◌else◌, Some, None, nat_lt, slice_index};
+ghost use Rattle.std.specs.Prelude.{◌≡◌, ◌&&◌, ◌∷◌, length, replicate, if◌then◌else◌, Some, None, nat_lt, slice_index};
 ghost use Rattle.automata.specs.Shown.{sign_bytes};
 ghost use Rattle.machines.specs.Tables.{count, next};
+ghost use Rattle.tables.specs.Held.{values_of, cells_of};
 ghost use Rattle.tables.specs.Shown.{shown, Blank};
 
-use crate::grid::Grid;
+use crate::grid::row::Row;
+use crate::grid::{Grid, no_rows};
 use automata::signs::Signs;
 
-// 128 places with this value in the first, and 0 in the others.
-fn first_place(value: u8) -> [u8; 128]
-    ensures { result ≡ value ∷ replicate 127 0 }
+// Rows with this value in the first, and nothing else.
+fn first_row(value: u8) -> [Row; 128]
+    ensures values { values_of result ≡ value ∷ replicate 127 0 }
+    ensures cells { cells_of result ≡ replicate 128 (replicate 16 0) }
 {
-    let mut values = [0; 128];
-    values[0] = value;
-    values
+    let mut rows = no_rows();
+    rows[0].value = value;
+    rows
 }
 
 impl Grid {
@@ -23,8 +26,7 @@ impl Grid {
         Grid {
             signs,
             count: 1,
-            values: first_place(value),
-            next: [[0; 16]; 128],
+            rows: first_row(value),
         }
     }
 
@@ -42,23 +44,18 @@ impl Grid {
 
     // The value of a state, where there is such a state.
     pub fn value(&self, state: usize) -> Option<u8>
-        ensures { result ≡ (if ltb state (count (shown self.now)) then Some (slice_index (shown self.now).values state) else None) }
+        ensures { result ≡ (if nat_lt state (count (shown self.now)) then Some (slice_index (shown self.now).values state) else None) }
     {
-        if state < self.count {
-            Some(self.values[state])
-        } else {
-            None
-        }
+        let row = self.rows[..self.count].get(state)?;
+        Some(row.value)
     }
 
     // The state to which a letter leads from a state, where there are such a state and such a letter.
     pub fn next(&self, state: usize, letter: usize) -> Option<usize>
-        ensures { result ≡ (if ltb state (count (shown self.now)) && nat_lt letter (length (sign_bytes self.now.signs)) then Some (next (length (sign_bytes self.now.signs)) (shown self.now) state letter) else None) }
+        ensures { result ≡ (if nat_lt state (count (shown self.now)) && nat_lt letter (length (sign_bytes self.now.signs)) then Some (next (length (sign_bytes self.now.signs)) (shown self.now) state letter) else None) }
     {
-        if state < self.count && letter < self.signs.len() {
-            Some(usize::from(self.next[state][letter]))
-        } else {
-            None
-        }
+        let row = self.rows[..self.count].get(state)?;
+        let next = row.next[..self.signs.len()].get(letter)?;
+        Some(usize::from(*next))
     }
 }

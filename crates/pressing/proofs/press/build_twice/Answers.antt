@@ -13,12 +13,12 @@ returns-then-is_err-2 g c =
     let back : Left g.row.M-State.Denot = record { table = c.build.new.table.grid; entries = c.build.new.roll.entries.now; len = c.build.new.roll.len } in
     let b : Holds m d back = is_built m d _ _ _ c.build.result (sym c.is_err.ensures.value ∙ c.if-is_err.false) c.build.ensures.ended in
     let r = is_refused _ _ _ _ _ c.build-2.result (sym c.is_err-2.ensures.value ∙ c.if-is_err-2.true) c.build-2.ensures.ended in
-    let l = last_fails m K c.signs-signs.ensures.kind d back b _ _ (sym c.wipe-then-is_err-2.ensures.long) r in
+    let l = last_fails m K c.signs-signs.ensures.kind d back b _ _ (sym c.wipe-then-is_err-2.ensures.loan.long) r in
     record {
-      roll_loan = c.wipe-then-is_err-2.ensures.loan ∙ c.build.ensures.loan;
-      roll_long = c.wipe-then-is_err-2.ensures.long ∙ c.build.ensures.long;
-      chart_loan = c.build-2.ensures.loan;
-      chart_long = c.build-2.ensures.long;
+      roll_loan = c.wipe-then-is_err-2.ensures.loan.loan ∙ c.build.ensures.loan.loan;
+      roll_long = c.wipe-then-is_err-2.ensures.loan.long ∙ c.build.ensures.loan.long;
+      chart_loan = c.build-2.ensures.loan.loan;
+      chart_long = c.build-2.ensures.loan.long;
       ended = (l.0, wiped_of m K (sign_bytes c.signs-signs.result) d _ _ _ c.signs-signs.ensures.signs c.signs-signs.ensures.kind c.wipe-then-is_err-2.ensures.wiped, l.1);
     }
 
@@ -29,10 +29,10 @@ returns g c =
     let back : Left g.row.M-State.Denot = record { table = c.build.new.table.grid; entries = c.build.new.roll.entries.now; len = c.build.new.roll.len } in
     let b : Holds m d back = is_built m d _ _ _ c.build.result (sym c.is_err.ensures.value ∙ c.if-is_err.false) c.build.ensures.ended in
     record {
-      roll_loan = c.build.ensures.loan;
-      roll_long = c.build.ensures.long;
-      chart_loan = c.build-2.ensures.loan;
-      chart_long = c.build-2.ensures.long;
+      roll_loan = c.build.ensures.loan.loan;
+      roll_long = c.build.ensures.loan.long;
+      chart_loan = c.build-2.ensures.loan.loan;
+      chart_long = c.build-2.ensures.loan.long;
       ended = both_built m g.M.Kind.Kind.model c.signs-signs.ensures.kind d back b _
           (is_built _ _ _ _ _ c.build-2.result (sym c.is_err-2.ensures.value ∙ c.if-is_err-2.false) c.build-2.ensures.ended);
     }

@@ -15,11 +15,11 @@ returns-then-is_err-2 g c =
     let b : Holds m d first = is_built m d _ _ _ c.build.result (sym c.is_err.ensures.value ∙ c.if-is_err.false) c.build.ensures.ended in
     let e = c.build_twice-pressed.ensures in
     let w = c.wipe-then-is_err-2.ensures in
-    let ends = machine_fails m K k d first b _ _ c.build_twice-pressed.result (sym c.is_err-2.ensures.value ∙ c.if-is_err-2.true) e.ended _ (sym w.long)
+    let ends = machine_fails m K k d first b _ _ c.build_twice-pressed.result (sym c.is_err-2.ensures.value ∙ c.if-is_err-2.true) e.ended _ (sym w.loan.long)
     (wiped_of m K (sign_bytes c.signs-signs.result) d _ _ _ c.signs-signs.ensures.signs k w.wiped) in
     record {
-      states_loan = w.loan ∙ c.build.ensures.loan;
-      states_long = w.long ∙ c.build.ensures.long;
+      states_loan = w.loan.loan ∙ c.build.ensures.loan.loan;
+      states_long = w.loan.long ∙ c.build.ensures.loan.long;
       columns_loan = e.roll_loan;
       columns_long = e.roll_long;
       chart_loan = e.chart_loan;
@@ -38,8 +38,8 @@ returns-else-is_err-2 g c =
     let ends = machine-ends m g.M.Kind.Kind.model c.signs-signs.ensures.kind d first b _ _ c.build_twice-pressed.result
     (sym c.is_err-2.ensures.value ∙ c.if-is_err-2.false) e.ended in
     record {
-      states_loan = c.build.ensures.loan;
-      states_long = c.build.ensures.long;
+      states_loan = c.build.ensures.loan.loan;
+      states_long = c.build.ensures.loan.long;
       columns_loan = e.roll_loan;
       columns_long = e.roll_long;
       chart_loan = e.chart_loan;

@@ -1,5 +1,5 @@
-use Rattle.std.proofs.Common.{◌≡◌, ℕ, ◌<◌, get_or}
+use Rattle.std.proofs.Common.{◌≡◌, take, replicate}
 use Rattle.rolls.proofs.roll.wipe.Given as goal
 
 abbrev pub invariant-loop-e : goal.invariant-loop-e
-invariant-loop-e g l = (k : ℕ) → k < l.e-index → get_or l.entries k g.T.State.blank ≡ g.T.State.blank
+invariant-loop-e g l = take l.e-index l.entries ≡ replicate l.e-index g.T.State.blank

@@ -1,19 +1,18 @@
-use Rattle.std.proofs.Common.{◌≡◌, ℕ, length, replicate, sym, refl, ap, ◌∙◌, subst, arith}
-use lib.ListN.{length-replicate}
+use Rattle.std.proofs.Common.{ℕ, length, replicate, sym, refl, ap, ◌∙◌, subst, arith}
+use Rattle.rolls.proofs.RollLaws.{keeps_on}
 use Rattle.tables.specs.declared.grid.Grid.{Grid}
 use Rattle.tables.specs.Builds.{Accepted}
 use Rattle.tables.proofs.Filled.{filled-some, filled-inside, filled-below, letters_are, accepted, refused}
+use Rattle.tables.proofs.GridLaws.{values-long}
 use Rattle.tables.proofs.grid.building.build.Goals as goal
 
 pub walk-requires : goal.walk-requires
 walk-requires g c =
     let d = g.M.State.State.blank in
-    let l : length c.clear.new.self.entries.now ≡ length c.args.roll.now.entries.now = ap length c.clear.ensures.items ∙ length-replicate _ g.M.State.State.blank in
     record {
       letters = c.len.ensures ∙ ap length c.signs-signs.ensures.signs;
-      blank_values = refl;
-      blank_next = refl;
-      blank_roll = c.clear.ensures.items ∙ ap (λ (n : ℕ). replicate n g.M.State.State.blank) (sym l);
+      blank_rows = c.no_rows-rows.ensures;
+      blank_roll = c.clear.ensures.items ∙ ap (λ (n : ℕ). replicate n g.M.State.State.blank) (sym c.clear.ensures.loan.long);
       unlisted = c.clear.ensures.len;
     }
 
@@ -25,9 +24,8 @@ invariant_of-grid g c =
     record {
       some = filled-some m _ _ _ _ _ _ q.1 q.0;
       few = omega (arith, q.0, q.1.few);
-      wide = q.1.wide;
+      tall = omega (arith, values-long c.walk.new.rows, q.1.wide);
       bytes = q.1.bytes;
-      rows = q.1.tall;
       columns = q.1.columns;
       blank = q.1.unvalued;
       inside = λ i a li la. filled-inside m _ _ _ _ _ _ q.1 q.0 i a li (omega (arith, k));
@@ -39,10 +37,8 @@ pub returns-in-Ok : goal.returns-in-Ok
 returns-in-Ok g c =
     let m = g.M.Machine.meaning c.args.machine.now in
     let q = c.in-Ok.ensures in
-    let l : length c.clear.new.self.entries.now ≡ length c.args.roll.now.entries.now = ap length c.clear.ensures.items ∙ length-replicate _ g.M.State.State.blank in
     record {
-      loan = q.loan ∙ c.clear.ensures.loan;
-      long = q.long ∙ l;
+      loan = keeps_on c.clear.ensures.loan q.loan;
       ended = subst (λ (t : Grid). Accepted (g.M.Machine.meaning c.args.machine.now) g.M.State.State.blank t c.walk.new.roll.entries.now c.walk.new.roll.len) (sym c.of.ensures)
           (accepted m _ _ _ c.in-Ok.count _ c.signs-signs.result refl c.signs-signs.ensures.signs refl q.ended.0 q.ended.1);
     }
@@ -51,10 +47,8 @@ pub returns-in-Err : goal.returns-in-Err
 returns-in-Err g c =
     let m = g.M.Machine.meaning c.args.machine.now in
     let q = c.in-Err.ensures in
-    let l : length c.clear.new.self.entries.now ≡ length c.args.roll.now.entries.now = ap length c.clear.ensures.items ∙ length-replicate _ g.M.State.State.blank in
     record {
-      loan = c.wipe.ensures.loan ∙ (q.loan ∙ c.clear.ensures.loan);
-      long = c.wipe.ensures.long ∙ (q.long ∙ l);
+      loan = keeps_on c.clear.ensures.loan (keeps_on q.loan c.wipe.ensures.loan);
       ended = refused m g.M.Kind.Kind.model _ c.walk.new.roll.entries.now _ _ _ c.signs-signs.result c.signs-signs.ensures.signs c.signs-signs.ensures.kind
-          q.ended c.wipe.ensures.long c.wipe.ensures.wiped;
+          q.ended c.wipe.ensures.loan.long c.wipe.ensures.wiped;
     }

@@ -1,18 +1,22 @@
-use Rattle.std.proofs.Common.{◌≡◌, ◌<◌, length, Ok, refl, ap, ◌∙◌, arith}
+use Rattle.std.proofs.Common.{◌≡◌, ◌<◌, get_or, Ok, refl, ap, ◌∙◌, arith}
 use Rattle.std.proofs.lemmas.Result.{err_from_is_err_and}
 use Rattle.machines.specs.Models.{alphabet}
-use Rattle.rolls.proofs.RollLaws.{placed-long, placed-more}
+use Rattle.rolls.proofs.RollLaws.{keeps_on, placed-more}
 use Rattle.tables.specs.declared.grid.building.BuildFault.{BuildFault}
-use Rattle.tables.proofs.Fillings.{filling_value, filling_row, placed_filling, placed_past, placed-full}
+use Rattle.tables.proofs.Fillings.{in_use, value-written, cell-written, filling_value, filling_row, placed_filling, placed_past, placed-full}
 use Rattle.tables.proofs.grid.building.fill_row.Goals as goal
 
 pub loop-letter-init : goal.loop-letter-init
-loop-letter-init g c = (
-  refl,
-  refl,
-  c.requires.listed,
-  filling_value _ _ _ _ _ _ _ _ _ c.requires.filling c.value_of.result c.requires.listed (omega (arith, c.value_of.type_inv)) c.value_of.ensures,
-)
+loop-letter-init g c =
+    let m = g.M.Machine.meaning c.args.machine.now in
+    let d = g.M.State.State.blank in
+    let roll = c.args.roll.now in
+    let x : c.value.result ≡ (g.M.Machine.meaning c.args.machine.now).value (get_or c.args.roll.now.entries.now c.args.i g.M.State.State.blank) =
+    c.value.ensures ∙ ap m.value (in_use d _ c.as_slice.result.now roll.entries.now roll.len c.args.i c.index-as_slice-i.is c.as_slice.ensures roll.within c.requires.listed) in (
+      record { loan = refl; long = refl },
+      c.requires.listed,
+      value-written m d _ _ _ _ _ 0 c.value.result (filling_value _ _ _ _ _ _ _ _ _ c.requires.filling c.value.result c.requires.listed c.value.type_inv x),
+    )
 
 pub returns-in_err-number : goal.returns-in_err-number
 returns-in_err-number g c =
@@ -21,10 +25,9 @@ returns-in_err-number g c =
     let q = c.in_err-number.ensures in
     let la : c.loop-letter.letter < alphabet (g.M.Machine.meaning c.args.machine.now) = omega (arith, c.requires.letters, c.loop-letter-test.true) in
     record {
-      loan = q.loan ∙ i.0;
-      long = ap length q.placed.kept ∙ i.1;
-      ended = rw p.1 (placed-full _ _ _ _ _ _ _ _ _ i.3 i.2 la _ c.step_of-state.ensures _ _ q.placed);
-      listed = omega (arith, i.2, q.placed.long);
+      loan = keeps_on i.0 q.loan;
+      ended = rw p.1 (placed-full _ _ _ _ _ _ _ _ _ i.2 i.1 la _ (c.step-state.ensures ∙ ap (λ (s : g.row.M-State.Denot). (g.M.Machine.meaning c.args.machine.now).step s c.loop-letter.letter) (in_use g.M.State.State.blank _ _ _ c.loop-letter.roll.len _ c.index-as_slice-i-in-loop-letter.is c.as_slice-in-loop-letter.ensures c.loop-letter.roll.within i.1)) _ _ q.placed);
+      listed = omega (arith, i.1, q.placed.long);
     }
 
 pub returns-then-number-ge128 : goal.returns-then-number-ge128
@@ -33,10 +36,9 @@ returns-then-number-ge128 g c =
     let q = c.in_ok-number.ensures in
     let la : c.loop-letter.letter < alphabet (g.M.Machine.meaning c.args.machine.now) = omega (arith, c.requires.letters, c.loop-letter-test.true) in
     record {
-      loan = q.loan ∙ i.0;
-      long = placed-long {E = BuildFault} _ _ _ _ _ _ (Ok c.in_ok-number.number) q.placed ∙ i.1;
-      ended = placed_past _ _ _ _ _ _ _ _ _ i.3 i.2 la _ c.step_of-state.ensures _ _ c.in_ok-number.number q.placed c.if-number-ge128.true;
-      listed = omega (arith, i.2, (placed-more {E = BuildFault} _ _ _ _ _ _ (Ok c.in_ok-number.number) q.placed).0);
+      loan = keeps_on i.0 q.loan;
+      ended = placed_past _ _ _ _ _ _ _ _ _ i.2 i.1 la _ (c.step-state.ensures ∙ ap (λ (s : g.row.M-State.Denot). (g.M.Machine.meaning c.args.machine.now).step s c.loop-letter.letter) (in_use g.M.State.State.blank _ _ _ c.loop-letter.roll.len _ c.index-as_slice-i-in-loop-letter.is c.as_slice-in-loop-letter.ensures c.loop-letter.roll.within i.1)) _ _ c.in_ok-number.number q.placed c.if-number-ge128.true;
+      listed = omega (arith, i.1, (placed-more {E = BuildFault} _ _ _ _ _ _ (Ok c.in_ok-number.number) q.placed).0);
     }
 
 pub loop-letter-preserved : goal.loop-letter-preserved
@@ -44,10 +46,10 @@ loop-letter-preserved g c =
     let i = c.loop-letter.invariant in
     let q = c.in_ok-number.ensures in
     let la : c.loop-letter.letter < alphabet (g.M.Machine.meaning c.args.machine.now) = omega (arith, c.requires.letters, c.loop-letter-test.true) in (
-      q.loan ∙ i.0,
-      placed-long {E = BuildFault} _ _ _ _ _ _ (Ok c.in_ok-number.number) q.placed ∙ i.1,
-      omega (arith, i.2, (placed-more {E = BuildFault} _ _ _ _ _ _ (Ok c.in_ok-number.number) q.placed).0),
-      placed_filling _ _ _ _ _ _ _ _ _ i.3 i.2 la _ c.step_of-state.ensures _ _ c.in_ok-number.number q.placed c.if-number-ge128.false,
+      keeps_on i.0 q.loan,
+      omega (arith, i.1, (placed-more {E = BuildFault} _ _ _ _ _ _ (Ok c.in_ok-number.number) q.placed).0),
+      cell-written _ _ _ _ _ _ _ _ c.loop-letter.letter c.in_ok-number.number
+          (placed_filling _ _ _ _ _ _ _ _ _ i.2 i.1 la _ (c.step-state.ensures ∙ ap (λ (s : g.row.M-State.Denot). (g.M.Machine.meaning c.args.machine.now).step s c.loop-letter.letter) (in_use g.M.State.State.blank _ _ _ c.loop-letter.roll.len _ c.index-as_slice-i-in-loop-letter.is c.as_slice-in-loop-letter.ensures c.loop-letter.roll.within i.1)) _ _ c.in_ok-number.number q.placed c.if-number-ge128.false),
     )
 
 pub returns : goal.returns
@@ -56,7 +58,6 @@ returns g c =
     let e : c.loop-letter.letter ≡ alphabet (g.M.Machine.meaning c.args.machine.now) = omega (arith, c.requires.letters, c.loop-letter-test.false, c.loop-letter.auto.letter-end) in
     record {
       loan = i.0;
-      long = i.1;
-      ended = filling_row _ _ _ _ _ _ _ _ _ i.3 e;
-      listed = i.2;
+      ended = filling_row _ _ _ _ _ _ _ _ _ i.2 e;
+      listed = i.1;
     }

@@ -1,7 +1,7 @@
-use Rattle.std.proofs.Common.{length, Ok, refl, ap, ◌∙◌, arith}
+use Rattle.std.proofs.Common.{refl, ap, arith}
 use Rattle.std.proofs.lemmas.Result.{err_from_is_err_and}
-use Rattle.rolls.proofs.RollLaws.{placed-long}
-use Rattle.tables.specs.declared.grid.building.BuildFault.{BuildFault}
+use Rattle.rolls.proofs.RollLaws.{keeps_on}
+use Rattle.tables.specs.Held.{values_of, cells_of}
 use Rattle.tables.proofs.Fillings.{first_filling, first-full}
 use Rattle.tables.proofs.grid.building.walk.Goals as goal
 
@@ -11,21 +11,19 @@ returns-in_err-place g c =
     let q = c.in_err-place.ensures in
     record {
       loan = q.loan;
-      long = ap length q.placed.kept;
       ended = rw p.1 (first-full _ _ _ _ _ _ _ c.start.ensures c.requires.unlisted c.requires.blank_roll q.placed);
     }
 
 pub loop-i-init : goal.loop-i-init
 loop-i-init g c =
     let q = c.in_ok-place.ensures in (
-      refl,
-      refl,
+      record { loan = refl; long = refl },
       omega arith,
-      first_filling _ _ _ _ _ _ _ c.start.ensures c.requires.unlisted c.requires.blank_roll c.in_ok-place.field-0 q.placed _ c.requires.blank_values _ c.requires.blank_next,
+      first_filling _ _ _ _ _ _ _ c.start.ensures c.requires.unlisted c.requires.blank_roll c.in_ok-place.field-0 q.placed _ (ap values_of c.requires.blank_rows) _ (ap cells_of c.requires.blank_rows),
     )
 
 pub fill_row-requires : goal.fill_row-requires
-fill_row-requires g c = record { letters = c.requires.letters; listed = omega (arith, c.loop-i-test.true, c.len.ensures); filling = c.loop-i.invariant.3 }
+fill_row-requires g c = record { letters = c.requires.letters; listed = omega (arith, c.loop-i-test.true, c.len.ensures); filling = c.loop-i.invariant.2 }
 
 pub returns-in_err-fill_row : goal.returns-in_err-fill_row
 returns-in_err-fill_row g c =
@@ -34,26 +32,24 @@ returns-in_err-fill_row g c =
     let r = c.in_ok-place.ensures in
     let i = c.loop-i.invariant in
     record {
-      loan = q.loan ∙ (i.0 ∙ r.loan);
-      long = q.long ∙ (i.1 ∙ placed-long {E = BuildFault} _ _ _ _ _ _ (Ok c.in_ok-place.field-0) r.placed);
+      loan = keeps_on r.loan (keeps_on i.0 q.loan);
       ended = rw p.1 q.ended;
     }
 
 pub loop-i-smaller : goal.loop-i-smaller
-loop-i-smaller g c = omega (arith, c.loop-i.invariant.3.few, c.loop-i-test.true, c.len.ensures)
+loop-i-smaller g c = omega (arith, c.loop-i.invariant.2.few, c.loop-i-test.true, c.len.ensures)
 
 pub loop-i-preserved : goal.loop-i-preserved
 loop-i-preserved g c =
     let q = c.in_ok-fill_row.ensures in
     let i = c.loop-i.invariant in
-    (q.loan ∙ i.0, q.long ∙ i.1, omega (arith, q.listed), q.ended)
+    (keeps_on i.0 q.loan, omega (arith, q.listed), q.ended)
 
 pub returns : goal.returns
 returns g c =
     let r = c.in_ok-place.ensures in
     let i = c.loop-i.invariant in
     record {
-      loan = i.0 ∙ r.loan;
-      long = i.1 ∙ placed-long {E = BuildFault} _ _ _ _ _ _ (Ok c.in_ok-place.field-0) r.placed;
-      ended = (omega (arith, i.2, c.loop-i-test.false, c.len.ensures), i.3);
+      loan = keeps_on r.loan i.0;
+      ended = (omega (arith, i.1, c.loop-i-test.false, c.len.ensures), i.2);
     }

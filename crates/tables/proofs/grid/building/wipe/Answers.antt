@@ -1,11 +1,8 @@
-use Rattle.std.proofs.Common.{length, ap, ◌∙◌}
-use lib.ListN.{length-replicate}
 use Rattle.tables.proofs.Filled.{wiped}
 use Rattle.tables.proofs.grid.building.wipe.Goals as goal
 
 pub returns : goal.returns
 returns g c = record {
   loan = c.clear.ensures.loan;
-  long = ap length c.clear.ensures.items ∙ length-replicate _ g.T.State.blank;
   wiped = wiped g.T.State.blank c.args.roll.now.entries.now _ _ _ _ _ c.blank.ensures c.clear.ensures.items c.clear.ensures.len;
 }

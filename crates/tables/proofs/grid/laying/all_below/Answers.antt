@@ -1,14 +1,11 @@
-use Rattle.std.proofs.Common.{ltb, length, get_or, arith}
-use Rattle.std.proofs.lemmas.Bool.{lt-ltb, le-ltb}
-use Rattle.tables.proofs.Padded.{every_true, every-false}
+use Rattle.std.proofs.Common.{◌≡◌, true, false, nat_lt, rules}
+use Rattle.std.proofs.lemmas.Iterator.{cases_from_all, YieldsList-from_slice}
+use Rattle.tables.proofs.Padded.{every_is}
 use Rattle.tables.proofs.grid.laying.all_below.Goals as goal
-
-pub returns-then-next-k : goal.returns-then-next-k
-returns-then-next-k c =
-    let next = c.args.next.now in
-    every-false (length next) (λ j. ltb (get_or next j 0) c.args.count) c.loop-k.k (omega (arith, c.loop-k-test.true)) (le-ltb (get_or next c.loop-k.k 0) c.args.count c.if-next-k.true)
 
 pub returns : goal.returns
 returns c =
-    let next = c.args.next.now in
-    every_true (length next) (λ j. ltb (get_or next j 0) c.args.count) (λ j l. lt-ltb (get_or next j 0) c.args.count (c.loop-k.invariant j (omega (arith, c.loop-k-test.false))))
+    let count = c.args.count in
+    every_is c.args.next.now (λ x. nat_lt x count) c.all.result
+    (cases_from_all _ _ c.all.result (λ x. nat_lt x count ≡ true) (λ x. nat_lt x count ≡ false) c.all.ensures.ran (YieldsList-from_slice c.args.next.now cc)
+    (λ x q k. search rules) (λ x q k. search rules))
