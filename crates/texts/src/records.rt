@@ -8,6 +8,7 @@ ghost use Rattle.texts.specs.declared.faults.FieldFault.{FieldFault};
 
 use crate::faults::{FieldFault, LineFault};
 use crate::letters::KindLetter;
+use automata::arrow::Arrow;
 use automata::signs::Signs;
 use drafts::calls::Call;
 use fields::cutting::cut;
@@ -78,11 +79,11 @@ fn read_arrow(signs: &[u8], rest: &[u8]) -> Result<Call, LineFault>
     let from = read_number(first).map_err(|fault| (2u8, fault))?;
     let letter = read_letter(signs, second).ok_or((3u8, FieldFault::NotListed))?;
     let to = read_number(third).map_err(|fault| (4u8, fault))?;
-    Ok(Call::Link {
+    Ok(Call::Link(Arrow {
         from: usize::from(from),
         letter,
         to: usize::from(to),
-    })
+    }))
 }
 
 // The call that a line after the first stands for.
