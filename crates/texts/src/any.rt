@@ -16,6 +16,7 @@ pub enum AnyDraft {
     OfM(Draft<M>),
 }
 
+// One arm for each kind: a trait of the kinds that have a letter would need as many impls for these two.
 impl AnyDraft {
     pub fn letter(&self) -> KindLetter
         ensures { result ≡ letter_of_draft self.now }
