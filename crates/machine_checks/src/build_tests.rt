@@ -1,13 +1,14 @@
 use crate::counter::Counter;
 use automata::faults::SignFault;
 use automata::signs::Signs;
+use kinds::yes_no::Y;
 use machines::machine::Machine;
 use rolls::fault::RollFault;
 use rolls::roll::Roll;
 use rolls::state::State;
 use std::test::Fail;
-use tables::build::Build;
 use tables::grid::building::build;
+use tables::table::Table;
 
 // How many states the table of a counter has, where it is built into this many entries.
 fn built(limit: u64, room: usize) -> Result<Option<usize>, SignFault> {
@@ -17,9 +18,10 @@ fn built(limit: u64, room: usize) -> Result<Option<usize>, SignFault> {
     if room > 200 {
         return Ok(None);
     }
-    let mut left = Build::fresh(signs, &mut entries[0..room]);
-    match build(&machine, &mut left) {
-        Ok(()) => Ok(Some(left.table.grid().state_count())),
+    let mut table = Table::<Y>::blank(signs);
+    let mut roll = Roll::fresh(&mut entries[0..room]);
+    match build(&machine, &mut table, &mut roll) {
+        Ok(()) => Ok(Some(table.grid().state_count())),
         Err(_) => Ok(None),
     }
 }
@@ -43,9 +45,10 @@ fn rows_of_a_counter(rt: HostRuntime) -> Result<(), Fail> {
     let signs = Signs::new(b"ab")?;
     let machine = Counter { signs, limit: 2 };
     let mut entries = [9u64; 5];
-    let mut left = Build::fresh(signs, &mut entries);
-    assert!(rt; build(&machine, &mut left).is_ok());
-    let grid = left.table.grid();
+    let mut table = Table::<Y>::blank(signs);
+    let mut roll = Roll::fresh(&mut entries);
+    assert!(rt; build(&machine, &mut table, &mut roll).is_ok());
+    let grid = table.grid();
     assert_eq!(rt; grid.value(1), Some(1));
     assert_eq!(rt; grid.value(3), None);
     assert_eq!(rt; grid.next(0, 0), Some(1));

@@ -9,11 +9,13 @@ ghost use Rattle.reports.specs.Reports.{OnceCount, DraftPrints, Prints};
 use crate::report::report;
 use drafts::draft::Draft;
 use kinds::kind::Kind;
+use pressing::judging::first_told;
 use pressing::once::once;
-use pressing::press::{Press, press_draft};
+use pressing::press::press_draft;
+use rolls::roll::Roll;
 use rolls::state::State;
 use std::alloc::{AllocError, Global};
-use tables::build::Build;
+use tables::table::Table;
 use texts::any::AnyDraft;
 use texts::faults::Refusal;
 use texts::letters::KindLetter;
@@ -29,9 +31,10 @@ const ROOM: usize = 128;
 fn once_count<K: Kind>(draft: &Draft<K>, sets: &mut [Reached]) -> Option<usize>
     ensures { OnceCount K.model (drawn draft.now) (accepted draft.now.automaton.signs) (length sets.old) result }
 {
-    let mut left = Build::fresh(draft.automaton().sign_list(), sets);
-    match once(draft, &mut left) {
-        Ok(()) => Some(left.table.grid().state_count()),
+    let mut table = Table::<K>::blank(draft.automaton().sign_list());
+    let mut roll = Roll::fresh(sets);
+    match once(draft, &mut table, &mut roll) {
+        Ok(()) => Some(table.grid().state_count()),
         Err(_) => None,
     }
 }
@@ -51,19 +54,19 @@ fn press_in<K: Kind>(
 {
     let automaton = draft.automaton();
     let signs = automaton.sign_list();
-    let mut press = Press {
-        back: Build::fresh(signs, columns),
-        last: Build::fresh(signs, chart),
-    };
-    match press_draft(draft, &mut press) {
+    let mut back = Table::<K>::blank(signs);
+    let mut last = Table::<K>::blank(signs);
+    let mut columns = Roll::fresh(columns);
+    let mut chart = Roll::fresh(chart);
+    match press_draft(draft, &mut back, &mut columns, &mut last, &mut chart) {
         Ok(()) => {
-            let told = press.first_told(automaton.state_count());
+            let told = first_told::<K>(&columns, &chart, automaton.state_count());
             let onces = once_count(draft, sets);
             report(
                 heap,
                 letter,
-                press.last.table.grid(),
-                press.back.table.grid().state_count(),
+                last.grid(),
+                back.grid().state_count(),
                 told,
                 onces,
             )
