@@ -11,6 +11,7 @@ ghost use Rattle.texts.specs.Writing.{write_fault_number, ended_line, call_lines
 use crate::any::AnyDraft;
 use crate::faults::Refusal;
 use crate::letters::KindLetter;
+use automata::arrow::Arrow;
 use automata::automaton::Automaton;
 use fields::writing::{put, put_number};
 
@@ -124,7 +125,7 @@ fn put_arrow(
     requires { letter < letters (shown automaton.now) }
     ensures { Puts out.old out.new at result (call_lines (shown automaton.now).signs (link_call (shown automaton.now) from letter to)) }
 {
-    if automaton.has_arrow(from, letter, to) {
+    if automaton.has_arrow(Arrow { from, letter, to }) {
         put_arrow_line(from as u64, automaton.signs()[letter], to as u64, out, at)
     } else {
         at
