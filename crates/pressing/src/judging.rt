@@ -1,13 +1,12 @@
 // Which states of a draft are atomic, from what a press leaves.
 ghost use Rattle.std.specs.Prelude.{◌≡◌, ◌<◌, Decides};
-ghost use Rattle.pressing.specs.Press.{code_of_entry};
 ghost use Rattle.pressing.specs.Verdicts.{SameColumn, Tells, Judged, FirstTold};
 
 use kinds::kind::Kind;
 use rolls::roll::Roll;
 use views::colouring::Colouring;
 
-// What is found of a state of a draft.
+// What is found of a state of a draft. As an option, None would have to mean that the state is atomic.
 #[derive(Clone, Copy, PartialEq, Eq, Debug)]
 pub enum Verdict {
     Atomic,
@@ -15,27 +14,14 @@ pub enum Verdict {
     Told { low: usize, high: usize },
 }
 
-// The code at a place of entry i of a roll.
-fn code_in<K: Kind>(roll: &Roll<'_, Colouring>, i: usize, place: usize) -> u8
-    requires { i < roll.now.len }
-    ensures { result ≡ code_of_entry K.model roll.now.entries.now i place }
-{
-    match roll.get(i) {
-        Some(colouring) => colouring.code::<K>(place),
-        None => K::none(),
-    }
-}
-
 // Whether two columns of the chart are equal.
 fn same_column<K: Kind>(chart: &Roll<'_, Colouring>, low: usize, high: usize) -> bool
     ensures { Decides result (SameColumn K.model chart.now.entries.now chart.now.len low high) }
 {
-    for row in 0..chart.len() {
-        if code_in::<K>(chart, row, low) != code_in::<K>(chart, row, high) {
-            return false;
-        }
-    }
-    true
+    chart
+        .as_slice()
+        .iter()
+        .all(|row| row.code::<K>(low) == row.code::<K>(high))
 }
 
 // Whether two backward states tell against a state: their columns are equal and their codes there differ.
@@ -50,7 +36,8 @@ fn tells<K: Kind>(
     requires high { high < columns.now.len }
     ensures { Decides result (Tells K.model columns.now.entries.now chart.now.entries.now chart.now.len state low high) }
 {
-    code_in::<K>(columns, low, state) != code_in::<K>(columns, high, state)
+    let columns = columns.as_slice();
+    columns[low].code::<K>(state) != columns[high].code::<K>(state)
         && same_column::<K>(chart, low, high)
 }
 
@@ -65,6 +52,7 @@ pub fn judge<K: Kind>(
 {
     let count = columns.len();
     let mut verdict = Verdict::Atomic;
+    // the numbers counted here are what the verdict holds
     'pairs: for low in 0..count {
         for high in low + 1..count {
             if tells::<K>(columns, chart, state, low, high) {
@@ -84,11 +72,5 @@ pub fn first_told<K: Kind>(
 ) -> Option<usize>
     ensures { FirstTold K.model columns.now.entries.now columns.now.len chart.now.entries.now chart.now.len count result }
 {
-    for state in 0..count {
-        match judge::<K>(columns, chart, state) {
-            Verdict::Atomic => {}
-            Verdict::Told { .. } => return Some(state),
-        }
-    }
-    None
+    (0..count).find(|state| matches!(judge::<K>(columns, chart, *state), Verdict::Told { .. }))
 }

@@ -1,6 +1,6 @@
-ghost use Rattle.std.specs.Prelude.{◌≡◌, length};
 ghost use Rattle.automata.specs.Sets.{no_states};
 ghost use Rattle.drafts.specs.Drawn.{drawn};
+ghost use Rattle.rolls.specs.Loans.{KeepsLoan};
 ghost use Rattle.tables.specs.Builds.{Ended};
 ghost use Rattle.views.specs.Accepted.{accepted};
 ghost use Rattle.views.specs.DraftViews.{forward_draft_model};
@@ -21,8 +21,7 @@ pub fn once<K: Kind>(
     table: &mut Table<K>,
     roll: &mut Roll<'_, Reached>,
 ) -> Result<(), BuildFault>
-    ensures loan { roll.new.entries.ghost_name ≡ roll.old.entries.ghost_name }
-    ensures long { length roll.new.entries.now ≡ length roll.old.entries.now }
+    ensures kept { KeepsLoan roll.old roll.new }
     ensures ended { Ended (forward_draft_model K.model (drawn draft.now) (accepted draft.now.automaton.signs)) (reached_set no_states) table.new.grid roll.new.entries.now roll.new.len result }
 {
     build(&ForwardDraft { draft }, table, roll)

@@ -1,21 +1,22 @@
 // Press: the smallest table, by reading backward twice.
-ghost use Rattle.std.specs.Prelude.{◌≡◌, length};
 ghost use Rattle.drafts.specs.Drawn.{drawn};
+ghost use Rattle.rolls.specs.Loans.{KeepsLoan};
 ghost use Rattle.views.specs.Accepted.{accepted};
-ghost use Rattle.pressing.specs.Pressed.{TwiceEnded, DraftEnded, MachineEnded, DraftSays, MachineSays};
+ghost use Rattle.pressing.specs.Pressed.{left_of, TwiceEnded, DraftEnded, MachineEnded, DraftSays, MachineSays};
 
 use crate::faults::PressFault;
 use drafts::draft::Draft;
 use kinds::kind::Kind;
 use machines::machine::Machine;
 use rolls::roll::Roll;
-use rolls::state::State;
 use tables::grid::building::{build, wipe};
 use tables::table::Table;
 use views::backward_draft::BackwardDraft;
 use views::backward_table::BackwardTable;
 use views::colouring::Colouring;
 
+// A table and its roll stay two parameters; tried: a struct of both, where no caller's proof gets back what it lent,
+// for the checker follows no entries two structs deep.
 // Builds the machine, and then its table as it is read backward.
 fn build_twice<M: Machine>(
     machine: &M,
@@ -24,21 +25,20 @@ fn build_twice<M: Machine>(
     last: &mut Table<M::Kind>,
     chart: &mut Roll<'_, Colouring>,
 ) -> Result<(), PressFault>
-    ensures roll_loan { roll.new.entries.ghost_name ≡ roll.old.entries.ghost_name }
-    ensures roll_long { length roll.new.entries.now ≡ length roll.old.entries.now }
-    ensures chart_loan { chart.new.entries.ghost_name ≡ chart.old.entries.ghost_name }
-    ensures chart_long { length chart.new.entries.now ≡ length chart.old.entries.now }
-    ensures ended { TwiceEnded (M.meaning machine.now) M.State.State.blank (record { table = table.new.grid; entries = roll.new.entries.now; len = roll.new.len }) (record { table = last.new.grid; entries = chart.new.entries.now; len = chart.new.len }) result }
+    ensures roll_kept { KeepsLoan roll.old roll.new }
+    ensures chart_kept { KeepsLoan chart.old chart.new }
+    ensures ended { TwiceEnded (M.meaning machine.now) M.State.State.blank (left_of table.new roll.new) (left_of last.new chart.new) result }
 {
     let signs = machine.signs();
-    if build(machine, table, roll).is_err() {
+    // tried: map_err with the wipe in it; the proof did not close, for nothing is known of what the closure changed
+    let Ok(()) = build(machine, table, roll) else {
         wipe(signs, last, chart);
         return Err(PressFault::Backward);
-    }
-    if build(&BackwardTable { table }, last, chart).is_err() {
+    };
+    let Ok(()) = build(&BackwardTable { table }, last, chart) else {
         wipe(signs, table, roll);
         return Err(PressFault::Last);
-    }
+    };
     Ok(())
 }
 
@@ -53,11 +53,9 @@ pub fn press_draft<K: Kind>(
     last: &mut Table<K>,
     chart: &mut Roll<'_, Colouring>,
 ) -> Result<(), PressFault>
-    ensures columns_loan { columns.new.entries.ghost_name ≡ columns.old.entries.ghost_name }
-    ensures columns_long { length columns.new.entries.now ≡ length columns.old.entries.now }
-    ensures chart_loan { chart.new.entries.ghost_name ≡ chart.old.entries.ghost_name }
-    ensures chart_long { length chart.new.entries.now ≡ length chart.old.entries.now }
-    ensures ended { DraftEnded K.model (drawn draft.now) (accepted draft.now.automaton.signs) (record { table = back.new.grid; entries = columns.new.entries.now; len = columns.new.len }) (record { table = last.new.grid; entries = chart.new.entries.now; len = chart.new.len }) result }
+    ensures columns_kept { KeepsLoan columns.old columns.new }
+    ensures chart_kept { KeepsLoan chart.old chart.new }
+    ensures ended { DraftEnded K.model (drawn draft.now) (accepted draft.now.automaton.signs) (left_of back.new columns.new) (left_of last.new chart.new) result }
     ensures says { DraftSays K.model (drawn draft.now) last.new.grid result }
 {
     build_twice(&BackwardDraft { draft }, back, columns, last, chart)
@@ -74,24 +72,22 @@ pub fn press_machine<M: Machine>(
     last: &mut Table<M::Kind>,
     chart: &mut Roll<'_, Colouring>,
 ) -> Result<(), PressFault>
-    ensures states_loan { states.new.entries.ghost_name ≡ states.old.entries.ghost_name }
-    ensures states_long { length states.new.entries.now ≡ length states.old.entries.now }
-    ensures columns_loan { columns.new.entries.ghost_name ≡ columns.old.entries.ghost_name }
-    ensures columns_long { length columns.new.entries.now ≡ length columns.old.entries.now }
-    ensures chart_loan { chart.new.entries.ghost_name ≡ chart.old.entries.ghost_name }
-    ensures chart_long { length chart.new.entries.now ≡ length chart.old.entries.now }
-    ensures ended { MachineEnded (M.meaning machine.now) M.State.State.blank (record { table = first.new.grid; entries = states.new.entries.now; len = states.new.len }) (record { table = back.new.grid; entries = columns.new.entries.now; len = columns.new.len }) (record { table = last.new.grid; entries = chart.new.entries.now; len = chart.new.len }) result }
+    ensures states_kept { KeepsLoan states.old states.new }
+    ensures columns_kept { KeepsLoan columns.old columns.new }
+    ensures chart_kept { KeepsLoan chart.old chart.new }
+    ensures ended { MachineEnded (M.meaning machine.now) M.State.State.blank (left_of first.new states.new) (left_of back.new columns.new) (left_of last.new chart.new) result }
     ensures says { MachineSays (M.meaning machine.now) last.new.grid result }
 {
     let signs = machine.signs();
-    if build(machine, first, states).is_err() {
+    let Ok(()) = build(machine, first, states) else {
         wipe(signs, back, columns);
         wipe(signs, last, chart);
         return Err(PressFault::First);
-    }
-    let pressed = build_twice(&BackwardTable { table: first }, back, columns, last, chart);
-    if pressed.is_err() {
+    };
+    let machine = BackwardTable { table: first };
+    if let Err(fault) = build_twice(&machine, back, columns, last, chart) {
         wipe(signs, first, states);
+        return Err(fault);
     }
-    pressed
+    Ok(())
 }

@@ -1,7 +1,8 @@
 // Verdict: whether a state of a draft is atomic.
-ghost use Rattle.std.specs.Prelude.{◌≡◌, length};
 ghost use Rattle.drafts.specs.Drawn.{drawn};
+ghost use Rattle.rolls.specs.Loans.{KeepsLoan};
 ghost use Rattle.views.specs.Accepted.{accepted};
+ghost use Rattle.pressing.specs.Pressed.{left_of};
 ghost use Rattle.pressing.specs.Verdicts.{VerdictEnded, VerdictMeans};
 
 use crate::faults::VerdictFault;
@@ -24,11 +25,9 @@ pub fn verdict<K: Kind>(
     last: &mut Table<K>,
     chart: &mut Roll<'_, Colouring>,
 ) -> Result<Verdict, VerdictFault>
-    ensures columns_loan { columns.new.entries.ghost_name ≡ columns.old.entries.ghost_name }
-    ensures columns_long { length columns.new.entries.now ≡ length columns.old.entries.now }
-    ensures chart_loan { chart.new.entries.ghost_name ≡ chart.old.entries.ghost_name }
-    ensures chart_long { length chart.new.entries.now ≡ length chart.old.entries.now }
-    ensures ended { VerdictEnded K.model (drawn draft.now) (accepted draft.now.automaton.signs) state (record { table = back.new.grid; entries = columns.new.entries.now; len = columns.new.len }) (record { table = last.new.grid; entries = chart.new.entries.now; len = chart.new.len }) result }
+    ensures columns_kept { KeepsLoan columns.old columns.new }
+    ensures chart_kept { KeepsLoan chart.old chart.new }
+    ensures ended { VerdictEnded K.model (drawn draft.now) (accepted draft.now.automaton.signs) state (left_of back.new columns.new) (left_of last.new chart.new) result }
     ensures means { VerdictMeans K.model (drawn draft.now) state result }
 {
     let automaton = draft.automaton();

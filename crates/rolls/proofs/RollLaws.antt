@@ -1,12 +1,13 @@
 -- What a user of a roll knows after placing an entry.
 use Rattle.std.proofs.Common.{◌≡◌, ℕ, ◌+◌, ◌<◌, ◌≤◌, false, List, length, get_or, set, is_ok, Ok, Err, Result, sym, refl, ap, ◌∙◌, subst, ⊎_elim, arith}
-use Rattle.std.specs.Borrow.{MutBor}
 use Rattle.std.proofs.lemmas.List.{length-set}
-use Rattle.rolls.specs.Rolls.{Different, Absent, Found, Added, KeepsLoan, Placed}
+use Rattle.rolls.specs.Rolls.{Different, Absent, Found, Added, Placed}
+use Rattle.rolls.specs.declared.roll.Roll.{Roll}
+use Rattle.rolls.specs.Loans.{KeepsLoan}
 use Rattle.rolls.proofs.Differing.{different_added, different_numbers}
 
 -- a loan that is kept twice is kept
-pub keeps_on : {S : Type 0} {first then last : MutBor (List S)} → KeepsLoan first then → KeepsLoan then last → KeepsLoan first last
+pub keeps_on : {S : Type 0} {first then last : Roll S} → KeepsLoan first then → KeepsLoan then last → KeepsLoan first last
 keeps_on k l = record { loan = l.loan ∙ k.loan; long = l.long ∙ k.long }
 
 -- es, n: the entries before and how many are in use; es', n': after; whatever was answered

@@ -1,6 +1,6 @@
 -- Different entries, the first of a list, and what placing one more leaves.
 use Rattle.std.specs.Prelude.{◌≡◌, ℕ, ◌+◌, ◌<◌, ◌≤◌, ◌⊎◌, List, length, get_or, Some, None, Ok, Err, Option, Result, ◌≢◌, slice_index_or, slice_set}
-use Rattle.std.specs.Borrow.{Bor, MutBor}
+use Rattle.std.specs.Borrow.{Bor}
 
 -- the first n entries are pairwise different
 abbrev pub Different : {S : Type 0} → List S → ℕ → Type 0
@@ -57,8 +57,3 @@ pub record Full {S : Type 0} (x d : S) (es : List S) (n : ℕ) (es' : List S) (n
 abbrev pub Placed : {S E : Type 0} → S → S → List S → ℕ → List S → ℕ → Result ℕ E → Type 0
 Placed x d es n es' n' (Ok i) = Found x d es n es' n' i ⊎ Added x d es n es' n' i
 Placed x d es n es' n' (Err e) = Full x d es n es' n'
-
--- The lent entries before and after: they are the same loan, and as many.
-pub record KeepsLoan {S : Type 0} (old new : MutBor (List S)) : Type 0 where
-  pub loan : new.ghost_name ≡ old.ghost_name
-  pub long : length new.now ≡ length old.now

@@ -1,5 +1,5 @@
 ghost use Rattle.std.specs.Prelude.{◌≡◌, ◌≤◌, length, replicate, take};
-ghost use Rattle.rolls.specs.Rolls.{Addable, Different, Got, KeepsLoan, Placed, Searched};
+ghost use Rattle.rolls.specs.Rolls.{Addable, Different, Got, Placed, Searched};
 
 use crate::fault::RollFault;
 use crate::state::State;
@@ -24,6 +24,8 @@ fn wipe<T: State>(entries: &mut [T])
 }
 
 impl<'a, T: State> Roll<'a, T> {
+    ghost use Rattle.rolls.specs.Loans.{KeepsLoan};
+
     // Takes the lent entries; all become blank, and none is in use.
     pub fn fresh(entries: &'a mut [T]) -> Roll<'a, T>
         ensures loan { result.entries.ghost_name ≡ entries.entry.ghost_name }
@@ -36,7 +38,7 @@ impl<'a, T: State> Roll<'a, T> {
 
     // The same again on a roll in use.
     pub fn clear(&mut self)
-        ensures loan { KeepsLoan self.old.entries self.new.entries }
+        ensures kept { KeepsLoan self.old self.new }
         ensures items { self.new.entries.now ≡ replicate (length self.old.entries.now) T.blank }
         ensures len { self.new.len ≡ 0 }
     {
@@ -83,7 +85,7 @@ impl<'a, T: State> Roll<'a, T> {
     // The number of the entry that equals `x`; where there is none, `x` is added at the end.
     // Refused where `x` is new and no supplied entry is free; the roll is then untouched.
     pub fn place(&mut self, x: T) -> Result<usize, RollFault>
-        ensures loan { KeepsLoan self.old.entries self.new.entries }
+        ensures kept { KeepsLoan self.old self.new }
         ensures placed { Placed x T.blank self.old.entries.now self.old.len self.new.entries.now self.new.len result }
     {
         if let Some(i) = self.position(&x) {

@@ -2,7 +2,7 @@
 ghost use Rattle.std.specs.Prelude.{◌≡◌, ◌<◌, ◌≤◌, length, replicate, slice_index_or};
 ghost use Rattle.automata.specs.Shown.{sign_bytes};
 ghost use Rattle.machines.specs.Models.{alphabet};
-ghost use Rattle.rolls.specs.Rolls.{KeepsLoan};
+ghost use Rattle.rolls.specs.Loans.{KeepsLoan};
 ghost use Rattle.tables.specs.Builds.{build_fault_number, Ended, Wiped};
 ghost use Rattle.tables.specs.Filling.{Filling};
 ghost use Rattle.tables.specs.Held.{values_of, cells_of, no_rows};
@@ -55,7 +55,7 @@ fn fill_row<M: Machine>(
     requires letters { letters ≡ alphabet (M.meaning machine.now) }
     requires listed { i < roll.old.len }
     requires filling { Filling (M.meaning machine.now) M.State.State.blank roll.old.entries.now roll.old.len (values_of rows.old) i (cells_of rows.old) i 0 }
-    ensures loan { KeepsLoan roll.old.entries roll.new.entries }
+    ensures kept { KeepsLoan roll.old roll.new }
     ensures ended { RowEnd (M.meaning machine.now) M.State.State.blank roll.new.entries.now roll.new.len (values_of rows.new) (cells_of rows.new) i result }
     ensures listed { i < roll.new.len }
 {
@@ -84,7 +84,7 @@ fn walk<M: Machine>(
     requires blank_rows { rows.old ≡ no_rows }
     requires blank_roll { roll.old.entries.now ≡ replicate (length roll.old.entries.now) M.State.State.blank }
     requires unlisted { roll.old.len ≡ 0 }
-    ensures loan { KeepsLoan roll.old.entries roll.new.entries }
+    ensures kept { KeepsLoan roll.old roll.new }
     ensures ended { WalkEnd (M.meaning machine.now) M.State.State.blank roll.new.entries.now roll.new.len (values_of rows.new) (cells_of rows.new) result }
 {
     roll.place(machine.start())?;
@@ -99,7 +99,7 @@ fn walk<M: Machine>(
 
 // Leaves a blank table with these signs, and an empty and blank roll.
 pub fn wipe<K: Kind, T: State>(signs: Signs, table: &mut Table<K>, roll: &mut Roll<'_, T>)
-    ensures loan { KeepsLoan roll.old.entries roll.new.entries }
+    ensures kept { KeepsLoan roll.old roll.new }
     ensures wiped { Wiped (sign_bytes signs) K.Kind.model.none T.State.blank table.new.grid roll.new.entries.now roll.new.len }
 {
     *table = Table::blank(signs);
@@ -114,7 +114,7 @@ pub fn build<M: Machine>(
     table: &mut Table<M::Kind>,
     roll: &mut Roll<'_, M::State>,
 ) -> Result<(), BuildFault>
-    ensures loan { KeepsLoan roll.old.entries roll.new.entries }
+    ensures kept { KeepsLoan roll.old roll.new }
     ensures ended { Ended (M.meaning machine.now) M.State.State.blank table.new.grid roll.new.entries.now roll.new.len result }
 {
     let signs = machine.signs();

@@ -1,9 +1,16 @@
-use Rattle.pressing.specs.Verdicts.{AloneTo}
-use Rattle.pressing.proofs.Atomics.{below_more}
+use Rattle.std.proofs.Common.{ℕ, rules}
+use Rattle.std.proofs.lemmas.Iterator.{first_from_Range}
+use Rattle.pressing.specs.Verdicts.{AloneTo, FirstPair}
+use Rattle.pressing.proofs.Columns.{told_of}
 use Rattle.pressing.proofs.judging.first_told.Goals as goal
 
-pub loop-state-preserved : goal.loop-state-preserved
-loop-state-preserved g c =
-    below_more
-    (λ q. AloneTo g.K.Kind.model c.args.columns.now.entries.now c.args.columns.now.len c.args.chart.now.entries.now c.args.chart.now.len q c.args.columns.now.len)
-    c.loop-state.state c.loop-state.invariant c.in-Atomic.ensures
+pub returns : goal.returns
+returns g c =
+    let K = g.K.Kind.model in
+    let back = c.args.columns.now in
+    let last = c.args.chart.now in
+    told_of K back.entries.now back.len last.entries.now last.len c.args.count c.find.result
+    (first_from_Range _ _ _ c.find.result
+    (λ q. (i : ℕ) × (j : ℕ) × FirstPair K back.entries.now back.len last.entries.now last.len q i j)
+    (λ q. AloneTo K back.entries.now back.len last.entries.now last.len q back.len)
+    c.find.ensures.ran (λ x q k. search rules) (λ x q k. search rules))

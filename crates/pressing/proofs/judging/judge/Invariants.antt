@@ -5,7 +5,13 @@ use Rattle.pressing.proofs.judging.judge.Given as goal
 
 -- no pair passed tells against the state
 abbrev pub invariant-pairs : goal.invariant-pairs
-invariant-pairs g l = AloneTo g.K.Kind.model l.columns.entries.now l.columns.len l.chart.entries.now l.chart.len l.state l.low × (l.verdict ≡ Atomic)
+invariant-pairs g l =
+    let back = l.columns in
+    let last = l.chart in
+    AloneTo g.K.Kind.model back.entries.now back.len last.entries.now last.len l.state l.low × (l.verdict ≡ Atomic)
 
 abbrev pub invariant-loop-high : goal.invariant-loop-high
-invariant-loop-high g l = Alone g.K.Kind.model l.columns.entries.now l.chart.entries.now l.chart.len l.state l.low l.high × (l.verdict ≡ Atomic)
+invariant-loop-high g l =
+    let back = l.columns in
+    let last = l.chart in
+    Alone g.K.Kind.model back.entries.now last.entries.now last.len l.state l.low l.high × (l.verdict ≡ Atomic)

@@ -6,13 +6,14 @@ use Rattle.tables.specs.Shown.{shown}
 use Rattle.tables.proofs.GridLaws.{shown-count}
 use Rattle.machines.specs.Tables.{count}
 use Rattle.views.specs.Those.{reached_set}
+use Rattle.pressing.specs.Pressed.{left_of}
 use Rattle.reports.proofs.pressed.once_count.Goals as goal
 
 pub returns-in-Ok : goal.returns-in-Ok
 returns-in-Ok g c =
     let q = c.in-Ok.ensures in
-    let long = q.long ∙ (ap length c.fresh-roll.ensures.items ∙ length-replicate (length c.args.sets.now) (reached_set no_states)) in (
-      record { table = c.once.new.table.grid; entries = c.once.new.roll.entries.now; len = c.once.new.roll.len },
+    let long = q.kept.long ∙ (ap length c.fresh-roll.ensures.items ∙ length-replicate (length c.args.sets.now) (reached_set no_states)) in (
+      left_of c.once.new.table c.once.new.roll,
       q.ended,
       long,
       c.state_count.ensures ∙ (ap (λ (t : Grid). count (shown t)) c.grid.ensures ∙ shown-count c.once.new.table.grid),

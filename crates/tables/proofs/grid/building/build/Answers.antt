@@ -12,7 +12,7 @@ walk-requires g c =
     record {
       letters = c.len.ensures ∙ ap length c.signs-signs.ensures.signs;
       blank_rows = c.no_rows-rows.ensures;
-      blank_roll = c.clear.ensures.items ∙ ap (λ (n : ℕ). replicate n g.M.State.State.blank) (sym c.clear.ensures.loan.long);
+      blank_roll = c.clear.ensures.items ∙ ap (λ (n : ℕ). replicate n g.M.State.State.blank) (sym c.clear.ensures.kept.long);
       unlisted = c.clear.ensures.len;
     }
 
@@ -38,7 +38,7 @@ returns-in-Ok g c =
     let m = g.M.Machine.meaning c.args.machine.now in
     let q = c.in-Ok.ensures in
     record {
-      loan = keeps_on c.clear.ensures.loan q.loan;
+      kept = keeps_on c.clear.ensures.kept q.kept;
       ended = subst (λ (t : Grid). Accepted (g.M.Machine.meaning c.args.machine.now) g.M.State.State.blank t c.walk.new.roll.entries.now c.walk.new.roll.len) (sym c.of.ensures)
           (accepted m _ _ _ c.in-Ok.count _ c.signs-signs.result refl c.signs-signs.ensures.signs refl q.ended.0 q.ended.1);
     }
@@ -48,7 +48,7 @@ returns-in-Err g c =
     let m = g.M.Machine.meaning c.args.machine.now in
     let q = c.in-Err.ensures in
     record {
-      loan = keeps_on c.clear.ensures.loan (keeps_on q.loan c.wipe.ensures.loan);
+      kept = keeps_on c.clear.ensures.kept (keeps_on q.kept c.wipe.ensures.kept);
       ended = refused m g.M.Kind.Kind.model _ c.walk.new.roll.entries.now _ _ _ c.signs-signs.result c.signs-signs.ensures.signs c.signs-signs.ensures.kind
-          q.ended c.wipe.ensures.loan.long c.wipe.ensures.wiped;
+          q.ended c.wipe.ensures.kept.long c.wipe.ensures.wiped;
     }

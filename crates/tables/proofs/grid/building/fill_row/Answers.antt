@@ -25,7 +25,7 @@ returns-in_err-number g c =
     let q = c.in_err-number.ensures in
     let la : c.loop-letter.letter < alphabet (g.M.Machine.meaning c.args.machine.now) = omega (arith, c.requires.letters, c.loop-letter-test.true) in
     record {
-      loan = keeps_on i.0 q.loan;
+      kept = keeps_on i.0 q.kept;
       ended = rw p.1 (placed-full _ _ _ _ _ _ _ _ _ i.2 i.1 la _ (c.step-state.ensures ∙ ap (λ (s : g.row.M-State.Denot). (g.M.Machine.meaning c.args.machine.now).step s c.loop-letter.letter) (in_use g.M.State.State.blank _ _ _ c.loop-letter.roll.len _ c.index-as_slice-i-in-loop-letter.is c.as_slice-in-loop-letter.ensures c.loop-letter.roll.within i.1)) _ _ q.placed);
       listed = omega (arith, i.1, q.placed.long);
     }
@@ -36,7 +36,7 @@ returns-then-number-ge128 g c =
     let q = c.in_ok-number.ensures in
     let la : c.loop-letter.letter < alphabet (g.M.Machine.meaning c.args.machine.now) = omega (arith, c.requires.letters, c.loop-letter-test.true) in
     record {
-      loan = keeps_on i.0 q.loan;
+      kept = keeps_on i.0 q.kept;
       ended = placed_past _ _ _ _ _ _ _ _ _ i.2 i.1 la _ (c.step-state.ensures ∙ ap (λ (s : g.row.M-State.Denot). (g.M.Machine.meaning c.args.machine.now).step s c.loop-letter.letter) (in_use g.M.State.State.blank _ _ _ c.loop-letter.roll.len _ c.index-as_slice-i-in-loop-letter.is c.as_slice-in-loop-letter.ensures c.loop-letter.roll.within i.1)) _ _ c.in_ok-number.number q.placed c.if-number-ge128.true;
       listed = omega (arith, i.1, (placed-more {E = BuildFault} _ _ _ _ _ _ (Ok c.in_ok-number.number) q.placed).0);
     }
@@ -46,7 +46,7 @@ loop-letter-preserved g c =
     let i = c.loop-letter.invariant in
     let q = c.in_ok-number.ensures in
     let la : c.loop-letter.letter < alphabet (g.M.Machine.meaning c.args.machine.now) = omega (arith, c.requires.letters, c.loop-letter-test.true) in (
-      keeps_on i.0 q.loan,
+      keeps_on i.0 q.kept,
       omega (arith, i.1, (placed-more {E = BuildFault} _ _ _ _ _ _ (Ok c.in_ok-number.number) q.placed).0),
       cell-written _ _ _ _ _ _ _ _ c.loop-letter.letter c.in_ok-number.number
           (placed_filling _ _ _ _ _ _ _ _ _ i.2 i.1 la _ (c.step-state.ensures ∙ ap (λ (s : g.row.M-State.Denot). (g.M.Machine.meaning c.args.machine.now).step s c.loop-letter.letter) (in_use g.M.State.State.blank _ _ _ c.loop-letter.roll.len _ c.index-as_slice-i-in-loop-letter.is c.as_slice-in-loop-letter.ensures c.loop-letter.roll.within i.1)) _ _ c.in_ok-number.number q.placed c.if-number-ge128.false),
@@ -57,7 +57,7 @@ returns g c =
     let i = c.loop-letter.invariant in
     let e : c.loop-letter.letter ≡ alphabet (g.M.Machine.meaning c.args.machine.now) = omega (arith, c.requires.letters, c.loop-letter-test.false, c.loop-letter.auto.letter-end) in
     record {
-      loan = i.0;
+      kept = i.0;
       ended = filling_row _ _ _ _ _ _ _ _ _ i.2 e;
       listed = i.1;
     }

@@ -10,7 +10,7 @@ returns-in_err-place g c =
     let p = err_from_is_err_and c.from_residual.result c.from_residual.ensures.1 in
     let q = c.in_err-place.ensures in
     record {
-      loan = q.loan;
+      kept = q.kept;
       ended = rw p.1 (first-full _ _ _ _ _ _ _ c.start.ensures c.requires.unlisted c.requires.blank_roll q.placed);
     }
 
@@ -32,7 +32,7 @@ returns-in_err-fill_row g c =
     let r = c.in_ok-place.ensures in
     let i = c.loop-i.invariant in
     record {
-      loan = keeps_on r.loan (keeps_on i.0 q.loan);
+      kept = keeps_on r.kept (keeps_on i.0 q.kept);
       ended = rw p.1 q.ended;
     }
 
@@ -43,13 +43,13 @@ pub loop-i-preserved : goal.loop-i-preserved
 loop-i-preserved g c =
     let q = c.in_ok-fill_row.ensures in
     let i = c.loop-i.invariant in
-    (keeps_on i.0 q.loan, omega (arith, q.listed), q.ended)
+    (keeps_on i.0 q.kept, omega (arith, q.listed), q.ended)
 
 pub returns : goal.returns
 returns g c =
     let r = c.in_ok-place.ensures in
     let i = c.loop-i.invariant in
     record {
-      loan = keeps_on r.loan i.0;
+      kept = keeps_on r.kept i.0;
       ended = (omega (arith, i.1, c.loop-i-test.false, c.len.ensures), i.2);
     }
