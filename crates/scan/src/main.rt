@@ -2,7 +2,7 @@
 // input, one to a line, and prints a line for each: its value, and its longest front part with a value.
 #![tactic(auto)]
 
-use anyhow::anyhow;
+use anyhow::Context;
 use drafts::draft::Draft;
 use kinds::kind::Kind;
 use pressing::press::press_draft;
@@ -67,11 +67,9 @@ fn scan_any(rt: &HostRuntime, draft: AnyDraft) -> anyhow::Result<()> {
 }
 
 fn main(rt: HostRuntime) -> anyhow::Result<()> {
-    let mut args = env::args(&rt)?;
-    args.next();
-    let Some(path) = args.next() else {
-        return Err(anyhow!("the name of a draft file is missing"));
-    };
+    let path = env::args(&rt)?
+        .nth(1)
+        .context("the name of a draft file is missing")?;
     let text = fs::read(&rt, path.as_str())?;
     match read_draft(text.as_slice()) {
         Ok(draft) => scan_any(&rt, draft),
