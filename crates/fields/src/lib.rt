@@ -4,3 +4,4 @@
 pub mod cutting;
 pub mod numbers;
 pub mod writing;
+pub mod written;

@@ -1,38 +1,51 @@
-ghost use Rattle.std.specs.Prelude.{◌≡◌, ◌+◌, ◌<◌, length, decimal};
-ghost use Rattle.fields.specs.Writing.{Puts};
+ghost use Rattle.std.specs.Prelude.{◌≡◌, ◌+◌, ◌^◌, ◌<◌, length, decimal};
 
-// Puts the bytes of `piece` into `out` from the place `at` on, all of them or, where `out` is too short, none.
-// Answers the place after them, or the largest `usize` where that place is larger:
-// a run of puts over an empty slice measures a text, and the same run over enough room writes it.
-pub fn put(out: &mut [u8], at: usize, piece: &[u8]) -> usize
-    ensures puts { Puts out.old out.new at result piece.now }
-    ensures kept { length out.old < at + length piece.now → out.new ≡ out.old }
-{
-    let Some(end) = at.checked_add(piece.len()) else {
-        return usize::MAX;
-    };
-    if end > out.len() {
-        return end;
-    }
-    out[at..end].copy_from_slice(piece);
-    end
+// Texts put one after another into a slice that the caller lends.
+// A run of puts over an empty slice measures a text, and the same run over enough room writes it.
+#[derive(Drop)]
+pub struct Writer<'a> {
+    out: &'a mut [u8],
+    // the bytes put so far, with those that had no room, or the largest `usize` where they are more
+    len: usize,
+    ghost within: { len < 2 ^ 64 },
+    // no slice has more bytes
+    ghost short: { length out.now < 2 ^ 63 },
 }
 
-// Puts the decimal digits of `n`, as `put` does.
-pub fn put_number(out: &mut [u8], at: usize, n: u64) -> usize
-    ensures puts { Puts out.old out.new at result (decimal n) }
-    ensures kept { length out.old < at + length (decimal n) → out.new ≡ out.old }
-{
-    let mut digits = [0u8; 20];
-    let mut start = 20;
-    let mut rest = n;
-    loop {
-        start -= 1;
-        digits[start] = b'0' + (rest % 10) as u8;
-        rest /= 10;
-        if rest == 0 {
-            break;
-        }
+impl<'a> Writer<'a> {
+    ghost use Rattle.fields.specs.Writing.{Puts};
+
+    pub fn new(out: &'a mut [u8]) -> Writer<'a>
+        ensures loan { result.out.ghost_name ≡ out.entry.ghost_name }
+        ensures kept { result.out.now ≡ out.old }
+        ensures len { result.len ≡ 0 }
+    {
+        Writer { out, len: 0 }
     }
-    put(out, at, &digits[start..])
+
+    pub fn len(&self) -> usize
+        ensures { result ≡ self.now.len }
+    {
+        self.len
+    }
+
+    // Puts the bytes of `piece` behind those put so far, all of them or, where the slice is too short, none.
+    pub fn put(&mut self, piece: &[u8])
+        ensures puts { Puts self.old self.new piece.now }
+        ensures kept { length self.old.out.now < self.old.len + length piece.now → self.new.out.now ≡ self.old.out.now }
+    {
+        let end = self.len.saturating_add(piece.len());
+        if end <= self.out.len() {
+            self.out[self.len..end].copy_from_slice(piece);
+        }
+        self.len = end;
+    }
+
+    // Puts the decimal digits of `n`, as `put` does.
+    pub fn put_number(&mut self, n: u64)
+        ensures puts { Puts self.old self.new (decimal n) }
+        ensures kept { length self.old.out.now < self.old.len + length (decimal n) → self.new.out.now ≡ self.old.out.now }
+    {
+        self.put(itoa::Buffer::new().format(n).as_bytes());
+    }
 }

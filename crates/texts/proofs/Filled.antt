@@ -1,8 +1,8 @@
 -- A text written into just as many bytes as it has fills them.
 use Rattle.std.proofs.Common.{◌≡◌, ℕ, List, ◌++◌, length, take, drop, Ok, Err, Result, sym, ap, ◌∙◌, arith}
 use Rattle.std.proofs.lemmas.List.{take_at, drop_all, append-nil}
-use Rattle.texts.specs.declared.writing.WriteFault.{WriteFault}
-use Rattle.texts.specs.Writing.{Wrote}
+use Rattle.fields.specs.declared.written.WriteFault.{WriteFault}
+use Rattle.fields.specs.Written.{Wrote}
 
 whole : (t before after : List ℕ) (n : ℕ) (r : Result ℕ WriteFault) → n ≡ length t → length before ≡ n → Wrote t before after r → after ≡ t
 whole t before after n (Ok m) e l w =

@@ -1,20 +1,21 @@
 -- Lines put one after another.
-use Rattle.std.proofs.Common.{◌≡◌, ℕ, zero, suc, ◌+◌, ◌^◌, ◌<◌, ◌≤◌, Bool, true, false, cond, List, [], ◌∷◌, ◌++◌, map, length, get_or, Ok, sym, refl, ap, ◌∙◌, subst, append_assoc, append-nil, add-one, arith}
+use Rattle.std.proofs.Common.{◌≡◌, ℕ, zero, suc, ◌+◌, Bool, true, false, cond, List, [], ◌∷◌, ◌++◌, map, length, get_or, sym, refl, ap, ◌∙◌, subst, append_assoc, append-nil, add-one}
 use mathlib.Core.List.{map-append}
 use Rattle.fields.specs.Pieces.{ended}
 use Rattle.fields.specs.Writing.{Puts}
-use Rattle.fields.proofs.Placed.{puts_none, puts_then, puts_measured, puts_whole}
+use Rattle.fields.specs.declared.writing.Writer.{Writer}
+use Rattle.fields.proofs.Placed.{puts_none, puts_then}
 use Rattle.drafts.specs.declared.calls.Call.{Call}
 use Rattle.drafts.specs.declared.calls.Call.TheVariants.{Grow}
 use Rattle.automata.specs.Drafts.{DraftModel, size}
 use Rattle.drafts.specs.Canonical.{each_below, grow_calls, enter_calls, link_calls}
 use Rattle.texts.specs.declared.letters.KindLetter.{KindLetter}
 use Rattle.texts.specs.Grammar.{line_of, head_fields, call_fields, written}
-use Rattle.texts.specs.Writing.{ended_line, call_lines, grow_call, Wrote}
+use Rattle.texts.specs.Writing.{ended_line, call_lines, grow_call}
 
 -- the same text by another name
-pub puts_as : {a b : List ℕ} {at e : ℕ} {s t : List ℕ} → s ≡ t → Puts a b at e s → Puts a b at e t
-puts_as {a} {b} {at} {e} q p = subst (λ (x : List ℕ). Puts a b at e x) q p
+pub puts_as : {a b : Writer} {s t : List ℕ} → s ≡ t → Puts a b s → Puts a b t
+puts_as {a} {b} q p = subst (λ (x : List ℕ). Puts a b x) q p
 
 pub ended-append : (b : ℕ) (ps qs : List (List ℕ)) → ended b (ps ++ qs) ≡ ended b ps ++ ended b qs
 ended-append b [] qs = refl
@@ -49,33 +50,22 @@ module _ (signs : List ℕ) where
   lines_more i f = ap (call_lines signs) (each_more i f) ∙ lines-append (each_below i f) (f i)
 
   -- for loops: the lines at one more place
-  pub puts_more : {a b c : List ℕ} {at m e : ℕ} (i : ℕ) (f : ℕ → List Call) → Puts a b at m (call_lines signs (each_below i f))
-      → Puts b c m e (call_lines signs (f i)) → Puts a c at e (call_lines signs (each_below (i + 1) f))
+  pub puts_more : {a b c : Writer} (i : ℕ) (f : ℕ → List Call) → Puts a b (call_lines signs (each_below i f))
+      → Puts b c (call_lines signs (f i)) → Puts a c (call_lines signs (each_below (i + 1) f))
   puts_more i f p q = puts_as (sym (lines_more i f)) (puts_then p q)
 
   -- after the last place
-  pub puts_all : {a b : List ℕ} {at e : ℕ} (i n : ℕ) (f : ℕ → List Call) → i ≡ n → Puts a b at e (call_lines signs (each_below i f))
-      → Puts a b at e (call_lines signs (each_below n f))
+  pub puts_all : {a b : Writer} (i n : ℕ) (f : ℕ → List Call) → i ≡ n → Puts a b (call_lines signs (each_below i f))
+      → Puts a b (call_lines signs (each_below n f))
   puts_all i n f q p = puts_as (ap (λ (k : ℕ). call_lines signs (each_below k f)) q) p
 
   -- calls under a test
-  pub puts_when : {a b : List ℕ} {at e : ℕ} (t : Bool) (cs : List Call) → t ≡ true → Puts a b at e (call_lines signs cs)
-      → Puts a b at e (call_lines signs (cond t cs []))
+  pub puts_when : {a b : Writer} (t : Bool) (cs : List Call) → t ≡ true → Puts a b (call_lines signs cs)
+      → Puts a b (call_lines signs (cond t cs []))
   puts_when t cs q p = puts_as (ap (λ (x : Bool). call_lines signs (cond x cs [])) (sym q)) p
 
-  pub puts_unless : (a : List ℕ) (at : ℕ) (t : Bool) (cs : List Call) → t ≡ false → at < 2 ^ 64 → length a < 2 ^ 63
-      → Puts a a at at (call_lines signs (cond t cs []))
-  puts_unless a at t cs q small bound = puts_as (ap (λ (x : Bool). call_lines signs (cond x cs [])) (sym q)) (puts_none a at small bound)
-
--- ---- a whole text
-
--- over an empty slice the place is the length
-pub measured : {c : List ℕ} {e : ℕ} {t : List ℕ} → Puts [] c 0 e t → length t < 2 ^ 64 → e ≡ length t
-measured p h = omega (arith, (puts_measured p).1)
-
--- with room the text is written
-pub wrote_whole : {a c : List ℕ} {e : ℕ} {t : List ℕ} → Puts a c 0 e t → length t ≤ length a → Wrote t a c (Ok e)
-wrote_whole p h = (omega (arith, p.place, p.bounded), h, puts_whole p h)
+  pub puts_unless : (a : Writer) (t : Bool) (cs : List Call) → t ≡ false → Puts a a (call_lines signs (cond t cs []))
+  puts_unless a t cs q = puts_as (ap (λ (x : Bool). call_lines signs (cond x cs [])) (sym q)) (puts_none a)
 
 -- ---- the text of a draft
 
@@ -89,7 +79,7 @@ written-parts k d =
     ∙ sym (append_assoc (line_of (head_fields k d.signs)) (10 ∷ []) _)
 
 -- the four parts put one after another
-pub puts_draft : {a b c e f : List ℕ} {at i j k l : ℕ} (kind : KindLetter) (d : DraftModel) → Puts a b at i (ended_line (head_fields kind d.signs))
-    → Puts b c i j (call_lines d.signs (grow_calls d)) → Puts c e j k (call_lines d.signs (enter_calls d)) → Puts e f k l (call_lines d.signs (link_calls d))
-    → Puts a f at l (written kind d)
+pub puts_draft : {a b c e f : Writer} (kind : KindLetter) (d : DraftModel) → Puts a b (ended_line (head_fields kind d.signs))
+    → Puts b c (call_lines d.signs (grow_calls d)) → Puts c e (call_lines d.signs (enter_calls d)) → Puts e f (call_lines d.signs (link_calls d))
+    → Puts a f (written kind d)
 puts_draft kind d p q r s = puts_as (sym (written-parts kind d)) (puts_then p (puts_then q (puts_then r s)))

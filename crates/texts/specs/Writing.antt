@@ -1,18 +1,12 @@
--- What is written of a draft and of a refusal, and what writing leaves in the slice.
-use Rattle.std.specs.Prelude.{◌≡◌, ℕ, ◌<◌, ◌≤◌, cond, List, [], ◌∷◌, ◌++◌, map, length, drop, Ok, Err, decimal, Result, slice_index}
+-- What is written of a draft and of a refusal.
+use Rattle.std.specs.Prelude.{ℕ, cond, List, [], ◌∷◌, ◌++◌, map, decimal, slice_index}
 use Rattle.fields.specs.Pieces.{ended}
 use Rattle.drafts.specs.declared.calls.Call.{Call}
 use Rattle.drafts.specs.declared.calls.Call.TheVariants.{Grow, Enter, Link}
 use Rattle.automata.specs.Drafts.{DraftModel, size, letters}
 use Rattle.drafts.specs.Canonical.{each_below}
 use Rattle.texts.specs.declared.faults.Refusal.{Refusal}
-use Rattle.texts.specs.declared.writing.WriteFault.{WriteFault}
-use Rattle.texts.specs.declared.writing.WriteFault.TheVariants.{NoRoom}
 use Rattle.texts.specs.Grammar.{line_of, call_fields}
-
--- the number of the fault
-abbrev pub write_fault_number : WriteFault → ℕ
-write_fault_number NoRoom = 26
 
 -- fields as a line with its newline
 abbrev pub ended_line : List (List ℕ) → List ℕ
@@ -42,9 +36,3 @@ links_from d p = each_below (letters d) (links_by d p)
 -- The line of a refusal: X, its number, the line, the field and the inner number.
 abbrev pub refusal_line : Refusal → List ℕ
 refusal_line r = ended_line ((88 ∷ []) ∷ decimal r.number ∷ decimal r.line ∷ decimal r.field ∷ decimal r.inner ∷ [])
-
--- The text t written to the front of what a slice holds, `before`: its length, with all behind it as it was,
--- or a fault just where the slice is too short, with the slice as it was.
-abbrev pub Wrote : List ℕ → List ℕ → List ℕ → Result ℕ WriteFault → Type 0
-Wrote t before after (Ok n) = (n ≡ length t) × (length t ≤ length before) × (after ≡ t ++ drop (length t) before)
-Wrote t before after (Err e) = (length before < length t) × (after ≡ before)

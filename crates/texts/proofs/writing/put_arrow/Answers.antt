@@ -16,9 +16,9 @@ returns-then-has_arrow c =
 pub returns-else-has_arrow : goal.returns-else-has_arrow
 returns-else-has_arrow c =
     let d = shown c.args.automaton.now in
-    puts_unless d.signs c.args.out.now c.args.at (d.arrow c.args.from c.args.letter c.args.to)
+    puts_unless d.signs c.args.out.now (d.arrow c.args.from c.args.letter c.args.to)
     (Link c.args.from c.args.letter c.args.to ∷ [])
-    (sym c.has_arrow.ensures ∙ c.if-has_arrow.false) (omega arith) (omega arith)
+    (sym c.has_arrow.ensures ∙ c.if-has_arrow.false)
 
 pub bounds-signs-letter : goal.bounds-signs-letter
 bounds-signs-letter c = omega (arith, ap length c.signs.ensures)

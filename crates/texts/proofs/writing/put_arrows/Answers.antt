@@ -7,12 +7,12 @@ use Rattle.texts.proofs.LinesPut.{puts_more, puts_all}
 use Rattle.texts.proofs.writing.put_arrows.Goals as goal
 
 pub loop-from-init : goal.loop-from-init
-loop-from-init c = puts_none c.args.out.now c.args.at (omega arith) (omega arith)
+loop-from-init c = puts_none c.args.out.now
 
 pub loop-from-preserved : goal.loop-from-preserved
 loop-from-preserved c =
     let d = shown c.args.automaton.now in
-    puts_more d.signs c.loop-from.from (links_from d) c.loop-from.invariant c.put_arrows_from-place.ensures
+    puts_more d.signs c.loop-from.from (links_from d) c.loop-from.invariant c.put_arrows_from.ensures
 
 pub returns : goal.returns
 returns c =

@@ -7,5 +7,5 @@ use Rattle.texts.proofs.writing.put_arrows.Given as goal
 -- the lines at the places passed are put
 abbrev pub invariant-loop-from : goal.invariant-loop-from
 invariant-loop-from l =
-    Puts l.initial.out l.out l.at l.place
+    Puts l.initial.out l.out
     (call_lines (shown l.automaton).signs (each_below l.from (links_from (shown l.automaton))))

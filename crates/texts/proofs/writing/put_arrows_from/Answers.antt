@@ -7,12 +7,12 @@ use Rattle.texts.proofs.LinesPut.{puts_more, puts_all}
 use Rattle.texts.proofs.writing.put_arrows_from.Goals as goal
 
 pub loop-letter-init : goal.loop-letter-init
-loop-letter-init c = puts_none c.args.out.now c.args.at (omega arith) (omega arith)
+loop-letter-init c = puts_none c.args.out.now
 
 pub loop-letter-preserved : goal.loop-letter-preserved
 loop-letter-preserved c =
     let d = shown c.args.automaton.now in
-    puts_more d.signs c.loop-letter.letter (links_by d c.args.from) c.loop-letter.invariant c.put_ends-place.ensures
+    puts_more d.signs c.loop-letter.letter (links_by d c.args.from) c.loop-letter.invariant c.put_ends.ensures
 
 pub returns : goal.returns
 returns c =

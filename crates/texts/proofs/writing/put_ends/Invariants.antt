@@ -7,5 +7,5 @@ use Rattle.texts.proofs.writing.put_ends.Given as goal
 -- the lines at the places passed are put
 abbrev pub invariant-loop-to : goal.invariant-loop-to
 invariant-loop-to l =
-    Puts l.initial.out l.out l.at l.place
+    Puts l.initial.out l.out
     (call_lines (shown l.automaton).signs (each_below l.to (link_call (shown l.automaton) l.from l.letter)))

@@ -1,4 +1,4 @@
-use Rattle.std.proofs.Common.{[], ◌∷◌, sym, ◌∙◌, arith}
+use Rattle.std.proofs.Common.{[], ◌∷◌, sym, ◌∙◌}
 use Rattle.drafts.specs.declared.calls.Call.TheVariants.{Enter}
 use Rattle.automata.specs.Shown.{shown}
 use Rattle.texts.proofs.LinesPut.{puts_when, puts_unless}
@@ -12,5 +12,5 @@ returns-then-is_entry c =
 pub returns-else-is_entry : goal.returns-else-is_entry
 returns-else-is_entry c =
     let d = shown c.args.automaton.now in
-    puts_unless d.signs c.args.out.now c.args.at (d.entry c.args.state) (Enter c.args.state ∷ [])
-    (sym c.is_entry.ensures ∙ c.if-is_entry.false) (omega arith) (omega arith)
+    puts_unless d.signs c.args.out.now (d.entry c.args.state) (Enter c.args.state ∷ [])
+    (sym c.is_entry.ensures ∙ c.if-is_entry.false)

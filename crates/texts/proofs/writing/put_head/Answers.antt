@@ -6,4 +6,4 @@ use Rattle.texts.proofs.writing.put_head.Goals as goal
 pub returns : goal.returns
 returns c =
     let n = append-nil c.args.signs.now in
-    puts_as (cc) (puts_then c.put-at.ensures.puts (puts_then c.put-at-2.ensures.puts c.put.ensures.puts))
+    puts_as (cc) (puts_then c.put.ensures.puts (puts_then c.put-2.ensures.puts c.put-3.ensures.puts))

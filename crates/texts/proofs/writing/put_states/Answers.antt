@@ -7,12 +7,12 @@ use Rattle.texts.proofs.LinesPut.{puts_as, grow_each, puts_more, puts_all}
 use Rattle.texts.proofs.writing.put_states.Goals as goal
 
 pub loop-state-init : goal.loop-state-init
-loop-state-init c = puts_none c.args.out.now c.args.at (omega arith) (omega arith)
+loop-state-init c = puts_none c.args.out.now
 
 pub loop-state-preserved : goal.loop-state-preserved
 loop-state-preserved c =
     let d = shown c.args.automaton.now in
-    puts_more d.signs c.loop-state.state (grow_call d) c.loop-state.invariant c.put_state-place.ensures
+    puts_more d.signs c.loop-state.state (grow_call d) c.loop-state.invariant c.put_state.ensures
 
 pub returns : goal.returns
 returns c =

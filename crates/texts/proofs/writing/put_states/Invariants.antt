@@ -7,5 +7,5 @@ use Rattle.texts.proofs.writing.put_states.Given as goal
 -- the lines at the places passed are put
 abbrev pub invariant-loop-state : goal.invariant-loop-state
 invariant-loop-state l =
-    Puts l.initial.out l.out l.at l.place
+    Puts l.initial.out l.out
     (call_lines (shown l.automaton).signs (each_below l.state (grow_call (shown l.automaton))))

@@ -1,6 +1,6 @@
 use Rattle.std.proofs.Common.{arith}
-use Rattle.texts.proofs.LinesPut.{measured}
+use Rattle.texts.proofs.Lengths.{length-refusal}
 use Rattle.texts.proofs.writing.refusal_len.Goals as goal
 
 pub returns : goal.returns
-returns c = measured c.put_refusal.ensures.puts (omega (arith, c.put_refusal.ensures.short))
+returns c = omega (arith, c.written_len.ensures, length-refusal c.args.refusal (omega arith) (omega arith) (omega arith) (omega arith))

@@ -1,0 +1,54 @@
+// Whatever has a written form.
+ghost use Rattle.std.specs.Prelude.{◌≡◌, ℕ, List, length};
+ghost use Rattle.fields.specs.Writing.{capped, Puts};
+ghost use Rattle.fields.specs.Written.{write_fault_number, Wrote};
+
+use crate::writing::Writer;
+
+// Why nothing is written.
+#[derive(Clone, Copy, PartialEq, Eq, Debug)]
+pub enum WriteFault {
+    // the slice is shorter than the text
+    NoRoom,
+}
+
+impl WriteFault {
+    // The number by which the refusal is known.
+    pub fn number(self) -> u8
+        ensures { result ≡ write_fault_number self }
+    {
+        match self {
+            WriteFault::NoRoom => 26,
+        }
+    }
+}
+
+// `Display` would not do here: its contract leaves open whether `fmt` succeeds, and so when a text is refused.
+pub trait Written {
+    // the bytes that are written
+    ghost text: { Self → List ℕ };
+
+    fn put(&self, out: &mut Writer<'_>)
+        ensures { Puts out.old out.new (text self.now) };
+
+    // How many bytes the text has, or the largest `usize` where they are more.
+    final fn written_len(&self) -> usize
+        ensures { result ≡ capped (length (text self.now)) }
+    {
+        let mut measure = Writer::new(&mut []);
+        self.put(&mut measure);
+        measure.len()
+    }
+
+    // Writes the text to the front of `out` and answers its length. Where `out` is too short, nothing is written.
+    final fn write(&self, out: &mut [u8]) -> Result<usize, WriteFault>
+        ensures { Wrote (text self.now) out.old out.new result }
+    {
+        if self.written_len() > out.len() {
+            return Err(WriteFault::NoRoom);
+        }
+        let mut writer = Writer::new(out);
+        self.put(&mut writer);
+        Ok(writer.len())
+    }
+}
