@@ -12,8 +12,8 @@ use rolls::state::State;
 use std::io::{BufRead, BufReader, Write};
 use std::{env, fs};
 use tables::table::Table;
-use texts::any::AnyDraft;
 use texts::faults::Refusal;
+use texts::for_any_kind;
 use texts::reading::read_draft;
 use texts::tidying::refusal_text;
 use views::colouring::Colouring;
@@ -58,21 +58,13 @@ fn scan<K: Kind>(rt: &HostRuntime, draft: &Draft<K>) -> anyhow::Result<()> {
     }
 }
 
-fn scan_any(rt: &HostRuntime, draft: AnyDraft) -> anyhow::Result<()> {
-    match draft {
-        AnyDraft::OfY(draft) => scan(rt, &draft),
-        AnyDraft::OfR(draft) => scan(rt, &draft),
-        AnyDraft::OfM(draft) => scan(rt, &draft),
-    }
-}
-
 fn main(rt: HostRuntime) -> anyhow::Result<()> {
     let path = env::args(&rt)?
         .nth(1)
         .context("the name of a draft file is missing")?;
     let text = fs::read(&rt, path.as_str())?;
     match read_draft(text.as_slice()) {
-        Ok(draft) => scan_any(&rt, draft),
+        Ok(draft) => for_any_kind!(draft, draft => scan(&rt, &draft)),
         Err(fault) => print_refusal(&rt, fault.refusal()),
     }
 }

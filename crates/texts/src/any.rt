@@ -16,6 +16,18 @@ pub enum AnyDraft {
     OfM(Draft<M>),
 }
 
+// Evaluates the same expression for the draft of whichever kind is there.
+#[macro_export]
+macro_rules! for_any_kind {
+    ($value:expr, $draft:pat => $result:expr) => {
+        match $value {
+            $crate::any::AnyDraft::OfY($draft) => $result,
+            $crate::any::AnyDraft::OfR($draft) => $result,
+            $crate::any::AnyDraft::OfM($draft) => $result,
+        }
+    };
+}
+
 impl AnyDraft {
     pub fn letter(&self) -> KindLetter
         ensures { result ≡ letter_of_draft self.now }
@@ -31,10 +43,6 @@ impl AnyDraft {
     pub fn automaton(&self) -> &Automaton
         ensures { result.now ≡ held_by self.now }
     {
-        match self {
-            AnyDraft::OfY(draft) => draft.automaton(),
-            AnyDraft::OfR(draft) => draft.automaton(),
-            AnyDraft::OfM(draft) => draft.automaton(),
-        }
+        for_any_kind!(self, draft => draft.automaton())
     }
 }

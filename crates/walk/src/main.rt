@@ -13,8 +13,8 @@ use std::io::{Read, Write};
 use tables::grid::Grid;
 use tables::grid::building::build;
 use tables::table::Table;
-use texts::any::AnyDraft;
 use texts::faults::Refusal;
+use texts::for_any_kind;
 use texts::reading::read_draft;
 use texts::tidying::refusal_text;
 use views::forward_draft::ForwardDraft;
@@ -89,19 +89,11 @@ fn walk<K: Kind>(rt: &HostRuntime, draft: &Draft<K>) -> anyhow::Result<()> {
     }
 }
 
-fn walk_any(rt: &HostRuntime, draft: AnyDraft) -> anyhow::Result<()> {
-    match draft {
-        AnyDraft::OfY(draft) => walk(rt, &draft),
-        AnyDraft::OfR(draft) => walk(rt, &draft),
-        AnyDraft::OfM(draft) => walk(rt, &draft),
-    }
-}
-
 fn main(rt: HostRuntime) -> anyhow::Result<()> {
     let mut text = Vec::new(rt.alloc());
     rt.stdin().read_to_end(&mut text)?;
     match read_draft(text.as_slice()) {
-        Ok(draft) => walk_any(&rt, draft),
+        Ok(draft) => for_any_kind!(draft, draft => walk(&rt, &draft)),
         Err(fault) => print_refusal(&rt, fault.refusal()),
     }
 }

@@ -38,7 +38,7 @@ returns-in-Ok g c =
     let backs = c.state_count-in-Ok.ensures ∙ (ap (λ (t : Grid). count (shown t)) c.grid-in-Ok.ensures ∙ shown-count c.press_draft.new.back.grid) in
     draft-prints K c.args.letter (drawn d) ok back last (length c.args.sets.now) columns chart (Ok tt) q.ended vec_items
     (λ v. vec_items v ≡ report_text c.args.letter (sign_bytes c.grid.result.now.signs) (shown c.grid.result.now) c.state_count-in-Ok.result told onces)
-    c.report.result
+    c.written_text.result
     (λ v e. record {
       told = told;
       first = first;
@@ -47,7 +47,7 @@ returns-in-Ok g c =
       once = c.once_count-onces.ensures;
       prints = e ∙ (λ i. report_text c.args.letter (sign_bytes (c.grid.ensures i).signs) (shown (c.grid.ensures i)) (backs i) told onces);
     })
-    c.report.ensures
+    c.written_text.ensures
 
 pub returns-in-Err : goal.returns-in-Err
 returns-in-Err g c =
