@@ -6,10 +6,9 @@ ghost use Rattle.tables.specs.Shown.{shown};
 ghost use Rattle.texts.specs.Writing.{ended_line};
 ghost use Rattle.reports.specs.Reports.{option_field, byte_of_verdict, verdict_fields, report_text};
 
-use crate::appending::Field;
 use crate::table_text::TableText;
 use fields::writing::Writer;
-use fields::written::Written;
+use fields::written::{Field, Written};
 
 // What is printed of a press.
 #[derive(Clone, Copy)]

@@ -4,9 +4,9 @@ ghost use Rattle.fields.specs.Writing.{Puts};
 ghost use Rattle.lookup.specs.Lookups.{Valued, Longest};
 ghost use Rattle.reports.specs.Scans.{code_text, no_sign_text, value_text, part_text, longest_text, ScanAdds};
 
-use crate::appending::{Field, add};
+use crate::appending::add;
 use fields::writing::Writer;
-use fields::written::Written;
+use fields::written::{Field, Written};
 use kinds::kind::Kind;
 use lookup::faults::{LongestFault, ValueFault};
 use lookup::longest::longest;

@@ -9,9 +9,8 @@ ghost use Rattle.tables.specs.Shown.{shown};
 ghost use Rattle.texts.specs.Writing.{ended_line};
 ghost use Rattle.reports.specs.Reports.{head_fields, row_fields, text_of_table};
 
-use crate::appending::{Field, Number};
 use fields::writing::Writer;
-use fields::written::Written;
+use fields::written::{Field, Number, Written};
 use tables::grid::Grid;
 use texts::letters::KindLetter;
 
