@@ -6,3 +6,4 @@ pub mod SameDraft
 pub mod ShownLaws
 pub mod HeldEqual
 pub mod FaultSet
+pub mod Placed

@@ -4,5 +4,6 @@
 pub mod automaton;
 pub mod faults;
 pub mod laws;
+pub mod places;
 pub mod sets;
 pub mod signs;

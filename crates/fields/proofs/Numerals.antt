@@ -37,26 +37,12 @@ decimal_not_padded n h =
     (λ (p : n ≡ 0 → ⊥). and_left (eqb (get_or (decimal n) 0 0) 48) (ltb 1 (length (decimal n))) (ne_eqb (get_or (decimal n) 0 0) 48 (λ e. omega (arith, first_decimal n (omega arith) h))))
     (cases_eq n 0)
 
--- ---- what each answer of the questions gives
+-- ---- the number of its digits
 
-pub number-empty : (bs : List ℕ) → eqb (length bs) 0 ≡ true → number_of bs ≡ Err Empty
-number-empty bs e = cond-true (eqb (length bs) 0) _ _ e
-
-pub number_not_digit : (bs : List ℕ) → eqb (length bs) 0 ≡ false → all_ascii_digits bs ≡ false → number_of bs ≡ Err NotDigit
-number_not_digit bs some d = cond-false (eqb (length bs) 0) _ _ some ∙ cond-false (all_ascii_digits bs) _ _ d
-
-pub number-padded : (bs : List ℕ) → eqb (length bs) 0 ≡ false → all_ascii_digits bs ≡ true → padded bs ≡ true → number_of bs ≡ Err LeadingZero
-number-padded bs some d p = cond-false (eqb (length bs) 0) _ _ some ∙ (cond-true (all_ascii_digits bs) _ _ d ∙ cond-true (padded bs) _ _ p)
-
-module _ (bs : List ℕ) (some : eqb (length bs) 0 ≡ false) (d : all_ascii_digits bs ≡ true) (p : padded bs ≡ false) where
-  sized : number_of bs ≡ cond (ltb (digits_value 10 bs) 256) (Ok (digits_value 10 bs)) (Err TooLarge)
-  sized = cond-false (eqb (length bs) 0) _ _ some ∙ (cond-true (all_ascii_digits bs) _ _ d ∙ cond-false (padded bs) _ _ p)
-
-  pub number_large : 256 ≤ digits_value 10 bs → number_of bs ≡ Err TooLarge
-  number_large h = sized ∙ cond-false (ltb (digits_value 10 bs) 256) _ _ (le-ltb (digits_value 10 bs) 256 h)
-
-  pub number_small : digits_value 10 bs < 256 → number_of bs ≡ Ok (digits_value 10 bs)
-  number_small h = sized ∙ cond-true (ltb (digits_value 10 bs) 256) _ _ (lt-ltb (digits_value 10 bs) 256 h)
+number_small : (bs : List ℕ) → eqb (length bs) 0 ≡ false → all_ascii_digits bs ≡ true → padded bs ≡ false → digits_value 10 bs < 256 → number_of bs ≡ Ok (digits_value 10 bs)
+number_small bs some d p h =
+    cond-false (eqb (length bs) 0) _ _ some
+    ∙ (cond-true (all_ascii_digits bs) _ _ d ∙ (cond-false (padded bs) _ _ p ∙ cond-true (ltb (digits_value 10 bs) 256) _ _ (lt-ltb (digits_value 10 bs) 256 h)))
 
 pub number-decimal : (n : ℕ) → n < 256 → number_of (decimal n) ≡ Ok n
 number-decimal n h =

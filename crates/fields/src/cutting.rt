@@ -6,10 +6,6 @@ pub fn cut(text: &[u8], separator: u8) -> Option<(&[u8], &[u8])>
     ensures cuts { Cuts separator text.entry result }
     ensures laws { PieceLaws }
 {
-    for (i, b) in text.iter().enumerate() {
-        if *b == separator {
-            return Some((&text[0..i], &text[i + 1..]));
-        }
-    }
-    None
+    let place = text.iter().position(|b| *b == separator)?;
+    Some((&text[..place], &text[place + 1..]))
 }

@@ -1,10 +1,7 @@
-ghost use Rattle.std.specs.Prelude.{◌≡◌, ℕ, ◌<◌, min, true, ◌↔◌, Ok, decimal};
+ghost use Rattle.std.specs.Prelude.{◌≡◌, ℕ, ◌<◌, ◌≤◌, true, ◌↔◌, Ok, decimal, MatchOption};
 ghost use Rattle.std.specs.Str.Parse.{digits_value};
 ghost use Rattle.std.specs.Str.{all_ascii_digits};
 ghost use Rattle.fields.specs.Numbers.{fault_number, number_of};
-
-// The largest number that is read.
-const LARGEST: u16 = 255;
 
 // What keeps a byte string from being a number.
 #[derive(Clone, Copy, PartialEq, Eq, Debug)]
@@ -33,24 +30,19 @@ impl NumberFault {
 fn only_digits(field: &[u8]) -> bool
     ensures { result ≡ all_ascii_digits field.now }
 {
-    for b in field {
-        if !b.is_ascii_digit() {
-            return false;
-        }
-    }
-    true
+    field.iter().all(u8::is_ascii_digit)
 }
 
-// The number that the digits write, or 256 where it is larger.
-fn capped_value(field: &[u8]) -> u16
-    requires { all_ascii_digits field.now ≡ true }
-    ensures { result ≡ min (digits_value 10 field.now) 256 }
+// The number that the digits write, or none where it is more than 255.
+fn value(digits: &[u8]) -> Option<u8>
+    requires { all_ascii_digits digits.now ≡ true }
+    ensures { MatchOption result (256 ≤ digits_value 10 digits.now) (λ n. n ≡ digits_value 10 digits.now) }
 {
-    let mut total = 0u16;
-    for b in field {
-        total = (total * 10 + u16::from(*b - b'0')).min(LARGEST + 1);
+    let mut total = 0u8;
+    for b in digits {
+        total = total.checked_mul(10)?.checked_add(*b - b'0')?;
     }
-    total
+    Some(total)
 }
 
 // A number from 0 to 255 in decimal digits. Of several faults, the first in the order of `NumberFault`.
@@ -64,12 +56,8 @@ pub fn read_number(field: &[u8]) -> Result<u8, NumberFault>
     if !only_digits(field) {
         return Err(NumberFault::NotDigit);
     }
-    if field[0] == b'0' && field.len() > 1 {
+    if let [b'0', _, ..] = field {
         return Err(NumberFault::LeadingZero);
     }
-    let total = capped_value(field);
-    if total > LARGEST {
-        return Err(NumberFault::TooLarge);
-    }
-    Ok(total as u8)
+    value(field).ok_or(NumberFault::TooLarge)
 }

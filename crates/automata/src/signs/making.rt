@@ -1,8 +1,9 @@
-ghost use Rattle.std.specs.Prelude.{◌≡◌, ℕ, ◌-◌, ◌<◌, ◌≤◌, ◌++◌, length, replicate, Some, None, MatchResult};
+ghost use Rattle.std.specs.Prelude.{◌≡◌, length, position, Some, None, MatchResult, ◌==◌};
 ghost use Rattle.automata.specs.Signs.{sign_fault};
 ghost use Rattle.automata.specs.Shown.{sign_bytes, SignsMade};
 
 use crate::faults::SignFault;
+use crate::places::in_places;
 use crate::signs::Signs;
 
 // Whether there are 1 to 16 signs, each a byte from 33 to 126 that stands once.
@@ -23,16 +24,6 @@ fn check_signs(signs: &[u8]) -> Result<(), SignFault>
     Ok(())
 }
 
-// The signs in 16 places, with 0 in those that are left.
-fn in_places(signs: &[u8]) -> [u8; 16]
-    requires { length signs.now ≤ 16 }
-    ensures { result ≡ signs.now ++ replicate (16 - length signs.now) 0 }
-{
-    let mut bytes = [0; 16];
-    bytes[0..signs.len()].copy_from_slice(signs);
-    bytes
-}
-
 impl Signs {
     // The list of these signs, or the first rule that they break.
     pub fn new(signs: &[u8]) -> Result<Signs, SignFault>
@@ -40,7 +31,7 @@ impl Signs {
     {
         check_signs(signs)?;
         Ok(Signs {
-            bytes: in_places(signs),
+            bytes: in_places(signs, 0),
             count: signs.len(),
         })
     }
@@ -56,5 +47,12 @@ impl Signs {
         ensures { result.now ≡ sign_bytes self.now }
     {
         &self.bytes[0..self.count]
+    }
+
+    // The letter that a sign stands for: the place at which it stands.
+    pub fn letter(&self, sign: u8) -> Option<usize>
+        ensures { result ≡ position (λ s. s == sign) (sign_bytes self.now) }
+    {
+        self.as_slice().iter().position(|s| *s == sign)
     }
 }

@@ -1,14 +1,15 @@
 use Rattle.std.proofs.Common.{ℕ, List, length, take, sym, ap, ◌∙◌, subst}
 use Rattle.automata.specs.Signs.{Visible, Apart, BlankPast}
+use Rattle.automata.proofs.Placed.{placed_few}
 use Rattle.automata.proofs.SignLaws.{decides_counted, accepted-parts, visible_from, apart_from, padded-length, padded-visible, padded-apart, padded-blank, padded-front}
 use Rattle.automata.proofs.signs.Signs.new.Goals as goal
 
 pub invariant_of-result : goal.invariant_of-result
 invariant_of-result c =
     let xs = c.args.signs.now in
-    let e = c.in_places.ensures in
     let a = accepted-parts xs c.in_ok-check_signs.ensures in
     let n = (decides_counted xs).0 a.0 in
+    let e = c.in_places.ensures ∙ placed_few 16 xs 0 n.1 in
     record {
       wide = ap length e ∙ padded-length xs n.1;
       some = n.0;
@@ -21,4 +22,5 @@ invariant_of-result c =
 pub returns : goal.returns
 returns c =
     let xs = c.args.signs.now in
-    (c.in_ok-check_signs.ensures, ap (take (length xs)) c.in_places.ensures ∙ padded-front xs)
+    let n = (decides_counted xs).0 (accepted-parts xs c.in_ok-check_signs.ensures).0 in
+    (c.in_ok-check_signs.ensures, ap (take (length xs)) (c.in_places.ensures ∙ placed_few 16 xs 0 n.1) ∙ padded-front xs)
