@@ -6,6 +6,7 @@ use anyhow::Context;
 use drafts::draft::Draft;
 use kinds::kind::Kind;
 use pressing::press::press_draft;
+use reports::pressed::ROOM;
 use reports::scan_text::add_scan;
 use rolls::roll::Roll;
 use rolls::state::State;
@@ -18,9 +19,7 @@ use texts::reading::read_draft;
 use texts::tidying::refusal_text;
 use views::colouring::Colouring;
 
-// How many entries each roll has.
-const ROOM: usize = 128;
-
+// In `walk` too: no contract says what is printed, so it may not be a library's public function.
 fn print_refusal(rt: &HostRuntime, refusal: Refusal) -> anyhow::Result<()> {
     let line = refusal_text(rt.alloc(), refusal)?;
     rt.stdout().write_all(line.as_slice())?;

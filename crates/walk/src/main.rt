@@ -52,13 +52,14 @@ fn first_word(
 
 // One state's line.
 fn print_row(rt: &HostRuntime, grid: &Grid, state: usize, word: &str) -> anyhow::Result<()> {
-    let value = grid.value(state).unwrap_or(0);
     let shown = if word.is_empty() { "-" } else { word };
-    print!(rt; "{state}\t{value}\t{shown}")?;
-    for next in (0..grid.signs().len()).filter_map(|letter| grid.next(state, letter)) {
-        print!(rt; "\t{next}")?;
+    if let Some(value) = grid.value(state) {
+        print!(rt; "{state}\t{value}\t{shown}")?;
+        for next in (0..grid.signs().len()).filter_map(|letter| grid.next(state, letter)) {
+            print!(rt; "\t{next}")?;
+        }
+        println!(rt; "")?;
     }
-    println!(rt; "")?;
     Ok(())
 }
 
@@ -72,6 +73,7 @@ fn print_rows(rt: &HostRuntime, grid: &Grid) -> anyhow::Result<()> {
     Ok(())
 }
 
+// In `scan` too: no contract says what is printed, so it may not be a library's public function.
 fn print_refusal(rt: &HostRuntime, refusal: Refusal) -> anyhow::Result<()> {
     let line = refusal_text(rt.alloc(), refusal)?;
     rt.stdout().write_all(line.as_slice())?;
