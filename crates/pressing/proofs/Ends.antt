@@ -1,5 +1,5 @@
 -- What the builds of a press come to together.
-use Rattle.std.proofs.Common.{◌≡◌, ℕ, true, false, List, length, is_err, None, Ok, Err, Result, sym, refl, subst}
+use Rattle.std.proofs.Common.{◌≡◌, ℕ, true, false, List, length, is_err, None, Ok, Err, Result, sym, subst}
 use Rattle.std.proofs.lemmas.Bool.{both_ways}
 use Rattle.kinds.specs.Kinds.{KindModel}
 use Rattle.automata.specs.Signs.{sign_fault}
@@ -18,20 +18,8 @@ use Rattle.pressing.specs.declared.faults.PressFault.TheVariants.{First, Backwar
 use Rattle.pressing.specs.Pressed.{Left, Holds, Empty, TooMany, reading, TwiceLeft, TwiceFails, TwiceEnded, DraftEnded, MachinePressed, MachineFails, MachineEnded, DraftSays, MachineSays}
 use Rattle.pressing.proofs.Left.{draft-says, machine-says}
 
-module _ {S U : Type 0} (m : MachineModel S) (d : S) (t : Grid) (es : List S) (len : ℕ) where
-  pub is_built : (r : Result U BuildFault) → is_err r ≡ false → Ended m d t es len r → Accepted m d t es len
-  is_built (Ok u) e h = h
-  is_built (Err f) e h = absurd (both_ways _ e refl)
-
-  pub is_refused : (r : Result U BuildFault) → is_err r ≡ true → Ended m d t es len r → Refused m d t es len
-  is_refused (Ok u) e h = absurd (both_ways _ refl e)
-  is_refused (Err f) e h = h
-
 -- a machine of the kind K, whose table is built
 module _ {S : Type 0} (m : MachineModel S) (K : KindModel) (k : m.kind ≡ K) (d : S) (back : Left S) (b : Holds m d back) where
-  pub both_built : (last : Left Colouring) → Holds (reading K back.table) (plain 0) last → TwiceLeft m d back last
-  both_built last h = record { built = b; again = subst (λ K. Holds (reading K back.table) (plain 0) last) (sym k) h }
-
   pub last_fails : (room : ℕ) (last : Left Colouring) → length back.entries ≡ room → Refused (reading K back.table) (plain 0) last.table last.entries last.len
       → TwiceFails m d room (length last.entries) Last × Empty m.signs m.kind.none (plain 0) last
   last_fails room last l r = (
@@ -47,13 +35,6 @@ draft-ends K d ok laws back last (Err e) p = tt
 
 -- a press of a machine whose table is built
 module _ {S : Type 0} (m : MachineModel S) (K : KindModel) (k : m.kind ≡ K) (d : S) (first : Left S) (b : Holds m d first) (back last : Left Colouring) where
-  pub machine-ends : {U : Type 0} (r : Result U PressFault) → is_err r ≡ false → TwiceEnded (reading K first.table) (plain 0) back last r
-      → MachineEnded m d first back last r × MachineSays m last.table r
-  machine-ends (Ok u) e h =
-      let p : MachinePressed m d first back last = record { built = b; twice = subst (λ K. TwiceLeft (reading K first.table) (plain 0) back last) (sym k) h } in
-      (p, λ w o. machine-says p w)
-  machine-ends (Err f) e h = absurd (both_ways _ e refl)
-
   fails : (f : PressFault) (room : ℕ) → length first.entries ≡ room → TwiceFails (reading K first.table) (plain 0) (length back.entries) (length last.entries) f
       → MachineFails m d room (length back.entries) (length last.entries) f
   fails First room l h = absurd h
@@ -64,8 +45,12 @@ module _ {S : Type 0} (m : MachineModel S) (K : KindModel) (k : m.kind ≡ K) (d
   emptied : (x : Left Colouring) → Empty (sign_bytes first.table.signs) K.none (plain 0) x → Empty m.signs m.kind.none (plain 0) x
   emptied x h = wiped_of m K (sign_bytes first.table.signs) (plain 0) x.table x.entries x.len b.signs k h
 
-  pub machine_fails : {U : Type 0} (r : Result U PressFault) → is_err r ≡ true → TwiceEnded (reading K first.table) (plain 0) back last r
-      → (left : Left S) → length first.entries ≡ length left.entries → Empty m.signs m.kind.none d left
-      → MachineEnded m d left back last r × MachineSays m last.table r
-  machine_fails (Ok u) e h left l w = absurd (both_ways _ refl e)
-  machine_fails (Err f) e h left l w = ((fails f (length left.entries) l h.0, w, emptied back h.1, emptied last h.2), tt)
+  pub machine_fails : (f : PressFault) (left : Left S) → length first.entries ≡ length left.entries
+      → TwiceFails (reading K first.table) (plain 0) (length back.entries) (length last.entries) f
+      → Empty m.signs m.kind.none d left → Empty (sign_bytes first.table.signs) K.none (plain 0) back → Empty (sign_bytes first.table.signs) K.none (plain 0) last
+      → MachineFails m d (length left.entries) (length back.entries) (length last.entries) f
+      × Empty m.signs m.kind.none d left × Empty m.signs m.kind.none (plain 0) back × Empty m.signs m.kind.none (plain 0) last
+  machine_fails f left l h e e' e'' = (fails f (length left.entries) l h, e, emptied back e', emptied last e'')
+
+  pub pressed : TwiceLeft (reading K first.table) (plain 0) back last → MachinePressed m d first back last
+  pressed h = record { built = b; twice = subst (λ K. TwiceLeft (reading K first.table) (plain 0) back last) (sym k) h }

@@ -4,5 +4,6 @@ pub mod Onces
 pub mod Atoms
 pub mod Left
 pub mod Ends
+pub mod Columns
 pub mod Pressing
 pub mod Atomics

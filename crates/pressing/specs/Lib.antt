@@ -1,4 +1,5 @@
 pub mod Pressed
+pub mod Loans
 pub mod Sources
 pub mod Press
 pub mod Law

@@ -8,6 +8,7 @@ use Rattle.drafts.specs.Words.{Over, value}
 use Rattle.machines.specs.Models.{MachineModel, alphabet, meaning, Spread}
 use Rattle.tables.specs.declared.grid.Grid.{Grid}
 use Rattle.tables.specs.Shown.{shown}
+use Rattle.tables.specs.declared.build.Build.{Build}
 use Rattle.tables.specs.Builds.{Accepted, Wiped}
 use Rattle.views.specs.declared.colouring.Colouring.{Colouring}
 use Rattle.views.specs.Accepted.{accepted}
@@ -28,6 +29,9 @@ pub record Left (S : Type 0) : Type 0 where
   pub table : Grid
   pub entries : List S
   pub len : ℕ
+
+abbrev pub left_of : {K S : Type 0} → Build K S → Left S
+left_of b = record { table = b.table.grid; entries = b.roll.entries.now; len = b.roll.len }
 
 -- the table and the states of m are left; d is blank
 abbrev pub Holds : {S : Type 0} → MachineModel S → S → Left S → Type 0

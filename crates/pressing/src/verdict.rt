@@ -1,43 +1,32 @@
 // Verdict: whether a state of a draft is atomic.
-ghost use Rattle.std.specs.Prelude.{◌≡◌, length};
 ghost use Rattle.drafts.specs.Drawn.{drawn};
 ghost use Rattle.views.specs.Accepted.{accepted};
+ghost use Rattle.pressing.specs.Loans.{KeepsLoans};
+ghost use Rattle.pressing.specs.Pressed.{left_of};
 ghost use Rattle.pressing.specs.Verdicts.{VerdictEnded, VerdictMeans};
 
 use crate::faults::VerdictFault;
-use crate::judging::{Verdict, judge};
-use crate::press::press_draft;
+use crate::judging::Verdict;
+use crate::press::{Press, press_draft};
 use drafts::draft::Draft;
 use kinds::kind::Kind;
-use rolls::roll::Roll;
-use tables::grid::building::wipe;
-use tables::table::Table;
-use views::colouring::Colouring;
 
 // Presses a draft and judges one of its states. Where there is no such state, or the press is refused, both
 // tables are blank, and both rolls empty and blank.
 pub fn verdict<K: Kind>(
     draft: &Draft<K>,
     state: usize,
-    back: &mut Table<K>,
-    columns: &mut Roll<'_, Colouring>,
-    last: &mut Table<K>,
-    chart: &mut Roll<'_, Colouring>,
+    press: &mut Press<'_, K>,
 ) -> Result<Verdict, VerdictFault>
-    ensures columns_loan { columns.new.entries.ghost_name ≡ columns.old.entries.ghost_name }
-    ensures columns_long { length columns.new.entries.now ≡ length columns.old.entries.now }
-    ensures chart_loan { chart.new.entries.ghost_name ≡ chart.old.entries.ghost_name }
-    ensures chart_long { length chart.new.entries.now ≡ length chart.old.entries.now }
-    ensures ended { VerdictEnded K.model (drawn draft.now) (accepted draft.now.automaton.signs) state (record { table = back.new.grid; entries = columns.new.entries.now; len = columns.new.len }) (record { table = last.new.grid; entries = chart.new.entries.now; len = chart.new.len }) result }
+    ensures kept { KeepsLoans press.old press.new }
+    ensures ended { VerdictEnded K.model (drawn draft.now) (accepted draft.now.automaton.signs) state (left_of press.new.back) (left_of press.new.last) result }
     ensures means { VerdictMeans K.model (drawn draft.now) state result }
 {
     let automaton = draft.automaton();
     if state >= automaton.state_count() {
-        let signs = automaton.sign_list();
-        wipe(signs, back, columns);
-        wipe(signs, last, chart);
+        press.wipe(automaton.sign_list());
         return Err(VerdictFault::NoState);
     }
-    press_draft(draft, back, columns, last, chart)?;
-    Ok(judge::<K>(columns, chart, state))
+    press_draft(draft, press)?;
+    Ok(press.judge(state))
 }

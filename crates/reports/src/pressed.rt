@@ -10,13 +10,11 @@ use crate::report::Report;
 use crate::table_text::TableText;
 use drafts::draft::Draft;
 use kinds::kind::Kind;
-use pressing::judging::first_told;
 use pressing::once::once;
-use pressing::press::press_draft;
-use rolls::roll::Roll;
+use pressing::press::{Press, press_draft};
 use rolls::state::State;
 use std::alloc::{AllocError, Global};
-use tables::table::Table;
+use tables::build::Build;
 use texts::any::AnyDraft;
 use texts::for_any_kind;
 use texts::faults::Refusal;
@@ -33,10 +31,9 @@ pub const ROOM: usize = 128;
 fn once_count<K: Kind>(draft: &Draft<K>, sets: &mut [Reached]) -> Option<usize>
     ensures { OnceCount K.model (drawn draft.now) (accepted draft.now.automaton.signs) (length sets.old) result }
 {
-    let mut table = Table::<K>::blank(draft.automaton().sign_list());
-    let mut roll = Roll::fresh(sets);
-    match once(draft, &mut table, &mut roll) {
-        Ok(()) => Some(table.grid().state_count()),
+    let mut left = Build::fresh(draft.automaton().sign_list(), sets);
+    match once(draft, &mut left) {
+        Ok(()) => Some(left.table.grid().state_count()),
         Err(_) => None,
     }
 }
@@ -56,20 +53,20 @@ fn press_in<K: Kind>(
 {
     let automaton = draft.automaton();
     let signs = automaton.sign_list();
-    let mut back = Table::<K>::blank(signs);
-    let mut last = Table::<K>::blank(signs);
-    let mut columns = Roll::fresh(columns);
-    let mut chart = Roll::fresh(chart);
-    match press_draft(draft, &mut back, &mut columns, &mut last, &mut chart) {
+    let mut press = Press {
+        back: Build::fresh(signs, columns),
+        last: Build::fresh(signs, chart),
+    };
+    match press_draft(draft, &mut press) {
         Ok(()) => {
-            let told = first_told::<K>(&columns, &chart, automaton.state_count());
+            let told = press.first_told(automaton.state_count());
             let onces = once_count(draft, sets);
             let report = Report {
                 table: TableText {
                     letter,
-                    grid: last.grid(),
+                    grid: press.last.table.grid(),
                 },
-                backward_count: back.grid().state_count(),
+                backward_count: press.back.table.grid().state_count(),
                 not_atomic: told,
                 forward_count: onces,
             };

@@ -1,4 +1,4 @@
-ghost use Rattle.std.specs.Prelude.{◌≡◌, ◌≤◌, length, replicate};
+ghost use Rattle.std.specs.Prelude.{◌≡◌, ◌≤◌, length, replicate, take};
 ghost use Rattle.rolls.specs.Rolls.{Addable, Different, Got, Placed, Searched};
 
 use crate::fault::RollFault;
@@ -57,6 +57,13 @@ impl<'a, T: State> Roll<'a, T> {
         ensures { result ≡ length self.now.entries.now }
     {
         self.entries.len()
+    }
+
+    // The entries in use.
+    pub fn as_slice(&self) -> &[T]
+        ensures { result.now ≡ take self.now.len self.now.entries.now }
+    {
+        &self.entries[..self.len]
     }
 
     // The entry numbered `i`, if it is in use.

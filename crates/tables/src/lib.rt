@@ -1,6 +1,7 @@
 // Transition tables with values, and one build for every machine.
 #![tactic(auto)]
 
+pub mod build;
 pub mod grid;
 pub mod laws;
 pub mod table;

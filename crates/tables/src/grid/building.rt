@@ -1,16 +1,15 @@
 // One build for every machine: the states that words reach, numbered by first reach.
 ghost use Rattle.std.specs.Prelude.{◌≡◌, ◌<◌, ◌≤◌, length, replicate, slice_index_or};
-ghost use Rattle.automata.specs.Shown.{sign_bytes};
 ghost use Rattle.machines.specs.Models.{alphabet};
-ghost use Rattle.tables.specs.Builds.{build_fault_number, Ended, Wiped};
+ghost use Rattle.rolls.specs.Loans.{KeepsLoan};
+ghost use Rattle.tables.specs.Builds.{build_fault_number, Ended};
 ghost use Rattle.tables.specs.Filling.{Filling};
 ghost use Rattle.tables.specs.Steps.{RowEnd, WalkEnd};
 ghost use Rattle.tables.specs.declared.grid.building.BuildFault.{BuildFault};
 
+use crate::build::Build;
 use crate::grid::Grid;
 use crate::table::Table;
-use automata::signs::Signs;
-use kinds::kind::Kind;
 use machines::machine::Machine;
 use rolls::fault::RollFault;
 use rolls::roll::Roll;
@@ -118,33 +117,21 @@ fn walk<M: Machine>(
     Ok(i)
 }
 
-// Leaves a blank table with these signs, and an empty and blank roll.
-pub fn wipe<K: Kind, T: State>(signs: Signs, table: &mut Table<K>, roll: &mut Roll<'_, T>)
-    ensures loan { roll.new.entries.ghost_name ≡ roll.old.entries.ghost_name }
-    ensures long { length roll.new.entries.now ≡ length roll.old.entries.now }
-    ensures wiped { Wiped (sign_bytes signs) K.Kind.model.none T.State.blank table.new.grid roll.new.entries.now roll.new.len }
-{
-    *table = Table::blank(signs);
-    roll.clear();
-}
-
 // Writes the states that words reach in the machine into the table and the roll, numbered by first
 // reach. Refused where there are more than 128 of them, or more than the roll has entries; the table
 // is then blank, and the roll empty and blank.
 pub fn build<M: Machine>(
     machine: &M,
-    table: &mut Table<M::Kind>,
-    roll: &mut Roll<'_, M::State>,
+    left: &mut Build<'_, M::Kind, M::State>,
 ) -> Result<(), BuildFault>
-    ensures loan { roll.new.entries.ghost_name ≡ roll.old.entries.ghost_name }
-    ensures long { length roll.new.entries.now ≡ length roll.old.entries.now }
-    ensures ended { Ended (M.meaning machine.now) M.State.State.blank table.new.grid roll.new.entries.now roll.new.len result }
+    ensures kept { KeepsLoan left.old.roll left.new.roll }
+    ensures ended { Ended (M.meaning machine.now) M.State.State.blank left.new.table.grid left.new.roll.entries.now left.new.roll.len result }
 {
     let signs = machine.signs();
     let mut values = [0; 128];
     let mut next = [[0; 16]; 128];
-    roll.clear();
-    match walk(machine, signs.len(), &mut values, &mut next, roll) {
+    left.roll.clear();
+    match walk(machine, signs.len(), &mut values, &mut next, &mut left.roll) {
         Ok(count) => {
             let grid = Grid {
                 signs,
@@ -152,11 +139,11 @@ pub fn build<M: Machine>(
                 values,
                 next,
             };
-            *table = Table::of(grid);
+            left.table = Table::of(grid);
             Ok(())
         }
         Err(fault) => {
-            wipe(signs, table, roll);
+            left.wipe(signs);
             Err(fault)
         }
     }

@@ -6,17 +6,9 @@ use Rattle.views.proofs.DraftReversal.{draft_view_laws}
 use Rattle.pressing.proofs.Ends.{draft-ends}
 use Rattle.pressing.proofs.press.press_draft.Goals as goal
 
-pub returns : goal.returns
-returns g c =
+pub returns-clause-says : goal.returns-clause-says
+returns-clause-says g c =
     let d = c.args.draft.now in
-    let e = c.build_twice.ensures in
     let ok = accepted d.automaton.signs in
     let laws = draft_view_laws g.K.Kind.model (drawn d) (omega (arith, shown-size d.automaton, d.automaton.few)) ok in
-    record {
-      columns_loan = e.roll_loan;
-      columns_long = e.roll_long;
-      chart_loan = e.chart_loan;
-      chart_long = e.chart_long;
-      ended = e.ended;
-      says = draft-ends g.K.Kind.model (drawn d) ok laws _ _ c.build_twice.result e.ended;
-    }
+    draft-ends g.K.Kind.model (drawn d) ok laws _ _ c.build_twice.result c.build_twice.ensures.ended

@@ -4,20 +4,15 @@ use Rattle.automata.specs.Drafts.{size}
 use Rattle.automata.specs.Shown.{shown}
 use Rattle.drafts.specs.Drawn.{drawn}
 use Rattle.views.specs.Accepted.{accepted}
+use Rattle.pressing.specs.Pressed.{left_of}
 use Rattle.pressing.proofs.Atomics.{verdict_means}
 use Rattle.pressing.proofs.verdict.verdict.Goals as goal
 
-pub returns : goal.returns
-returns g c =
+pub returns-clause-means : goal.returns-clause-means
+returns-clause-means g c =
     let d = c.args.draft.now in
-    let q = c.in_ok-press_draft.ensures in
+    let press = c.press_draft.new.press in
     let n = c.state_count.ensures ∙ ap (λ (a : Automaton). size (shown a)) c.automaton-automaton.ensures in
     let inside : c.args.state < size (drawn d) = omega (arith, n, c.if-state-state_count.false) in
-    record {
-      columns_loan = c.press_draft.ensures.columns_loan;
-      columns_long = c.press_draft.ensures.columns_long;
-      chart_loan = c.press_draft.ensures.chart_loan;
-      chart_long = c.press_draft.ensures.chart_long;
-      ended = (inside, q.ended, c.judge.ensures);
-      means = verdict_means g.K.Kind.model (drawn d) (accepted d.automaton.signs) _ _ q.ended c.args.state inside c.judge.result c.judge.ensures;
-    }
+    verdict_means g.K.Kind.model (drawn d) (accepted d.automaton.signs) (left_of press.back) (left_of press.last) c.in_ok-press_draft.ensures.ended c.args.state inside
+    c.judge.result c.judge.ensures

@@ -1,27 +1,14 @@
-use Rattle.std.proofs.Common.{◌≡◌, ℕ, length, replicate, sym, refl, ap, ◌∙◌, subst, arith}
-use lib.ListN.{length-replicate}
+use Rattle.std.proofs.Common.{sym, refl, ap, subst, arith}
 use Rattle.tables.specs.declared.grid.Grid.{Grid}
 use Rattle.tables.specs.Builds.{Accepted}
-use Rattle.tables.proofs.Filled.{filled-some, filled-inside, filled-below, letters_are, accepted, refused}
+use Rattle.tables.proofs.Filled.{filled-some, filled-inside, filled-below, letters_are, accepted}
 use Rattle.tables.proofs.grid.building.build.Goals as goal
-
-pub walk-requires : goal.walk-requires
-walk-requires g c =
-    let d = g.M.State.State.blank in
-    let l : length c.clear.new.self.entries.now ≡ length c.args.roll.now.entries.now = ap length c.clear.ensures.items ∙ length-replicate _ g.M.State.State.blank in
-    record {
-      letters = c.len.ensures ∙ ap length c.signs-signs.ensures.signs;
-      blank_values = refl;
-      blank_next = refl;
-      blank_roll = c.clear.ensures.items ∙ ap (λ (n : ℕ). replicate n g.M.State.State.blank) (sym l);
-      unlisted = c.clear.ensures.len;
-    }
 
 pub invariant_of-grid : goal.invariant_of-grid
 invariant_of-grid g c =
     let m = g.M.Machine.meaning c.args.machine.now in
     let q = c.in-Ok.ensures.ended in
-    let k = letters_are (g.M.Machine.meaning c.args.machine.now) c.signs-signs.result c.signs-signs.ensures.signs in
+    let k = letters_are m c.signs-signs.result c.signs-signs.ensures.signs in
     record {
       some = filled-some m _ _ _ _ _ _ q.1 q.0;
       few = omega (arith, q.0, q.1.few);
@@ -35,26 +22,12 @@ invariant_of-grid g c =
       beside = λ i a l. q.1.beside i a (omega (arith, k));
     }
 
-pub returns-in-Ok : goal.returns-in-Ok
-returns-in-Ok g c =
+pub returns-in-Ok-clause-ended : goal.returns-in-Ok-clause-ended
+returns-in-Ok-clause-ended g c =
     let m = g.M.Machine.meaning c.args.machine.now in
-    let q = c.in-Ok.ensures in
-    let l : length c.clear.new.self.entries.now ≡ length c.args.roll.now.entries.now = ap length c.clear.ensures.items ∙ length-replicate _ g.M.State.State.blank in
-    record {
-      loan = q.loan ∙ c.clear.ensures.loan;
-      long = q.long ∙ l;
-      ended = subst (λ (t : Grid). Accepted (g.M.Machine.meaning c.args.machine.now) g.M.State.State.blank t c.walk.new.roll.entries.now c.walk.new.roll.len) (sym c.of.ensures)
-          (accepted m _ _ _ c.in-Ok.count _ c.signs-signs.result refl c.signs-signs.ensures.signs refl q.ended.0 q.ended.1);
-    }
-
-pub returns-in-Err : goal.returns-in-Err
-returns-in-Err g c =
-    let m = g.M.Machine.meaning c.args.machine.now in
-    let q = c.in-Err.ensures in
-    let l : length c.clear.new.self.entries.now ≡ length c.args.roll.now.entries.now = ap length c.clear.ensures.items ∙ length-replicate _ g.M.State.State.blank in
-    record {
-      loan = c.wipe.ensures.loan ∙ (q.loan ∙ c.clear.ensures.loan);
-      long = c.wipe.ensures.long ∙ (q.long ∙ l);
-      ended = refused m g.M.Kind.Kind.model _ c.walk.new.roll.entries.now _ _ _ c.signs-signs.result c.signs-signs.ensures.signs c.signs-signs.ensures.kind
-          q.ended c.wipe.ensures.long c.wipe.ensures.wiped;
-    }
+    let d = g.M.State.State.blank in
+    let s = c.signs-signs in
+    let roll = c.walk.new.roll in
+    let q = c.in-Ok.ensures.ended in
+    subst (λ (t : Grid). Accepted m d t roll.entries.now roll.len) (sym c.of-left.ensures)
+    (accepted m d _ _ c.in-Ok.count _ s.result refl s.ensures.signs refl q.0 q.1)
