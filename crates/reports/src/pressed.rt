@@ -32,10 +32,8 @@ fn once_count<K: Kind>(draft: &Draft<K>, sets: &mut [Reached]) -> Option<usize>
     ensures { OnceCount K.model (drawn draft.now) (accepted draft.now.automaton.signs) (length sets.old) result }
 {
     let mut left = Build::fresh(draft.automaton().sign_list(), sets);
-    match once(draft, &mut left) {
-        Ok(()) => Some(left.table.grid().state_count()),
-        Err(_) => None,
-    }
+    once(draft, &mut left).ok()?;
+    Some(left.table.grid().state_count())
 }
 
 // What is printed of a draft of any kind, under the letter of its kind, pressed and built in these entries.
@@ -59,16 +57,14 @@ fn press_in<K: Kind>(
     };
     match press_draft(draft, &mut press) {
         Ok(()) => {
-            let told = press.first_told(automaton.state_count());
-            let onces = once_count(draft, sets);
             let report = Report {
                 table: TableText {
                     letter,
                     grid: press.last.table.grid(),
                 },
                 backward_count: press.back.table.grid().state_count(),
-                not_atomic: told,
-                forward_count: onces,
+                not_atomic: press.first_told(automaton.state_count()),
+                forward_count: once_count(draft, sets),
             };
             written_text(heap, &report)
         }
