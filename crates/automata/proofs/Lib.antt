@@ -1,9 +1,9 @@
 pub mod Bits
 pub mod SetLaws
 pub mod SignLaws
-pub mod ArrowLaws
-pub mod SameDraft
+pub mod RowLaws
 pub mod ShownLaws
 pub mod HeldEqual
+pub mod SameDraft
 pub mod FaultSet
 pub mod Placed

@@ -1,7 +1,9 @@
 -- What the fields of every automaton keep: nothing lies past the counts.
-use Rattle.std.specs.Prelude.{◌≡◌, ℕ, ◌^◌, ◌<◌, true, List, [], length, slice_index, slice_index_or}
+use Rattle.std.specs.Prelude.{◌≡◌, ℕ, ◌<◌, ◌≤◌, true, List, [], length, replicate, slice_index, slice_index_or, refl}
+use Rattle.std.proofs.Common.{lit<}
 use Rattle.automata.specs.declared.sets.StateSet.{StateSet}
-use Rattle.automata.specs.Sets.{bit, has}
+use Rattle.automata.specs.declared.row.Row.{Row}
+use Rattle.automata.specs.Sets.{has, no_states}
 
 -- each is a byte
 abbrev pub Bytes : List ℕ → Type 0
@@ -15,19 +17,21 @@ RowsOf m rows = (p : ℕ) → p < length rows → length (slice_index_or rows p 
 abbrev pub Within : StateSet → ℕ → Type 0
 Within s n = (p : ℕ) → has s p ≡ true → p < n
 
--- the ends of the arrows from p with the letter a, as the bits of one number
-abbrev pub ends_of : List (List ℕ) → ℕ → ℕ → ℕ
-ends_of rows p a = slice_index (slice_index_or rows p []) a
+-- the row of a state that has the code 0 and no arrow
+abbrev pub blank_row : Row
+blank_row = record { code = 0; ends = replicate 16 no_states; byte = lit< tt; wide = refl }
 
-abbrev pub Bits32 : List (List ℕ) → Type 0
-Bits32 rows = (p a : ℕ) → ends_of rows p a < 2 ^ 32
+-- the row of the state p, and the ends of the arrows from p by the letter a
+abbrev pub row_of : List Row → ℕ → Row
+row_of rows p = slice_index_or rows p blank_row
+
+abbrev pub ends_of : List Row → ℕ → ℕ → StateSet
+ends_of rows p a = slice_index_or (row_of rows p).ends a no_states
+
+-- the code in each row past the first n is 0
+abbrev pub CodesPast : List Row → ℕ → Type 0
+CodesPast rows n = (p : ℕ) → n ≤ p → (row_of rows p).code ≡ 0
 
 -- arrows go from states below n, by letters below m, to states below n
-abbrev pub FromWithin : List (List ℕ) → ℕ → Type 0
-FromWithin rows n = (p a q : ℕ) → bit (ends_of rows p a) q ≡ true → p < n
-
-abbrev pub ByWithin : List (List ℕ) → ℕ → Type 0
-ByWithin rows m = (p a q : ℕ) → bit (ends_of rows p a) q ≡ true → a < m
-
-abbrev pub ToWithin : List (List ℕ) → ℕ → Type 0
-ToWithin rows n = (p a q : ℕ) → bit (ends_of rows p a) q ≡ true → q < n
+abbrev pub Linked : List Row → ℕ → ℕ → Type 0
+Linked rows n m = (p a q : ℕ) → has (ends_of rows p a) q ≡ true → (p < n) × (a < m) × (q < n)

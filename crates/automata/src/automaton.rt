@@ -1,7 +1,7 @@
 ghost use Rattle.std.specs.Prelude.{◌≡◌, ◌≤◌, length};
-ghost use Rattle.automata.specs.Signs.{BlankPast};
-ghost use Rattle.automata.specs.Held.{Bytes, RowsOf, Bits32, Within, FromWithin, ByWithin, ToWithin};
+ghost use Rattle.automata.specs.Held.{Within, CodesPast, Linked};
 
+use crate::row::Row;
 use crate::sets::StateSet;
 use crate::signs::Signs;
 
@@ -13,19 +13,13 @@ pub mod reading;
 #[derive(Clone, Copy)]
 pub struct Automaton {
     signs: Signs,
+    // no heap: the rows of the states that there are stand first in 32 places
     count: usize,
-    codes: [u8; 32],
-    entries: StateSet,
-    arrows: [[u32; 16]; 32],
+    rows: [Row; 32],
+    entry_set: StateSet,
     ghost few: { count ≤ 32 },
-    ghost wide: { length codes ≡ 32 },
-    ghost bytes: { Bytes codes },
-    ghost rows: { length arrows ≡ 32 },
-    ghost columns: { RowsOf 16 arrows },
-    ghost bits: { Bits32 arrows },
-    ghost blank: { BlankPast codes count },
-    ghost entered: { Within entries count },
-    ghost from: { FromWithin arrows count },
-    ghost by: { ByWithin arrows signs.count },
-    ghost to: { ToWithin arrows count },
+    ghost wide: { length rows ≡ 32 },
+    ghost blank: { CodesPast rows count },
+    ghost linked: { Linked rows count signs.count },
+    ghost entered: { Within entry_set count },
 }

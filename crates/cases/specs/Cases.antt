@@ -5,8 +5,8 @@ use Rattle.kinds.specs.Delivered.{y_model, r_model, m_model}
 use Rattle.automata.specs.Signs.{sign_fault}
 use Rattle.automata.specs.Drafts.{DraftModel, size, fresh}
 use Rattle.drafts.specs.declared.calls.Call.{Call}
-use Rattle.drafts.specs.declared.calls.Call.TheVariants.{Grow, Link, Enter}
-use Rattle.drafts.specs.Calls.{after_all, outcomes}
+use Rattle.drafts.specs.declared.calls.Call.TheVariants.{Grow, Enter}
+use Rattle.drafts.specs.Calls.{link, after_all, outcomes}
 use Rattle.machines.specs.Tables.{TableModel, count}
 use Rattle.tables.specs.declared.grid.Grid.{Grid}
 use Rattle.tables.specs.Shown.{shown}
@@ -50,7 +50,7 @@ pub record Case : Type 0 where
 
 -- the calls that add states with these values, make these states entries, and add these arrows: from, letter, to
 abbrev pub drawn : List ℕ → List ℕ → List (ℕ × ℕ × ℕ) → List Call
-drawn values entries arrows = map Grow values ++ map Enter entries ++ map (λ r. Link r.0 r.1 r.2) arrows
+drawn values entries arrows = map Grow values ++ map Enter entries ++ map (λ r. link r.0 r.1 r.2) arrows
 
 -- the signs a and b, and the letters that they stand for
 abbrev pub ab : List ℕ

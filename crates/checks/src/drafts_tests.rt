@@ -1,4 +1,7 @@
+ghost use Rattle.std.specs.Prelude.{◌≡◌};
+
 use crate::further::Gaps;
+use automata::arrow::Arrow;
 use automata::faults::SignFault;
 use drafts::calls::{Answer, Call};
 use drafts::draft::Draft;
@@ -11,6 +14,12 @@ use std::test::Fail;
 // The fault of opening with these signs.
 fn fault(signs: &[u8]) -> Option<SignFault> {
     Draft::<Y>::open(signs).err()
+}
+
+fn arrow(from: usize, letter: usize, to: usize) -> Arrow
+    ensures { result ≡ record { from = from; letter = letter; to = to } }
+{
+    Arrow { from, letter, to }
 }
 
 #[test]
@@ -34,10 +43,10 @@ fn states_at_their_edge(rt: HostRuntime) -> Result<(), Fail> {
     }
     assert_eq!(rt; draft.grow(0), Err(CallFault::Full));
     assert_eq!(rt; draft.automaton().state_count(), 32);
-    assert_eq!(rt; draft.link(31, 1, 31), Ok(()));
-    assert_eq!(rt; draft.link(31, 1, 32), Err(CallFault::NoState));
-    assert_eq!(rt; draft.link(31, 2, 31), Err(CallFault::NoLetter));
-    assert!(rt; draft.automaton().has_arrow(31, 1, 31));
+    assert_eq!(rt; draft.link(arrow(31, 1, 31)), Ok(()));
+    assert_eq!(rt; draft.link(arrow(31, 1, 32)), Err(CallFault::NoState));
+    assert_eq!(rt; draft.link(arrow(31, 2, 31)), Err(CallFault::NoLetter));
+    assert!(rt; draft.automaton().has_arrow(arrow(31, 1, 31)));
     Ok(())
 }
 
@@ -55,12 +64,12 @@ fn each_question_in_its_order(rt: HostRuntime) -> Result<(), Fail> {
     assert_eq!(rt; draft.enter(0), Ok(()));
     assert_eq!(rt; draft.enter(0), Err(CallFault::Present));
     assert_eq!(rt; draft.leave(0), Ok(()));
-    assert_eq!(rt; draft.link(7, 7, 0), Err(CallFault::NoState));
-    assert_eq!(rt; draft.unlink(0, 1, 0), Err(CallFault::Absent));
-    assert_eq!(rt; draft.link(0, 1, 0), Ok(()));
-    assert_eq!(rt; draft.link(0, 1, 0), Err(CallFault::Present));
-    assert_eq!(rt; draft.unlink(0, 1, 0), Ok(()));
-    assert!(rt; !draft.automaton().has_arrow(0, 1, 0));
+    assert_eq!(rt; draft.link(arrow(7, 7, 0)), Err(CallFault::NoState));
+    assert_eq!(rt; draft.unlink(arrow(0, 1, 0)), Err(CallFault::Absent));
+    assert_eq!(rt; draft.link(arrow(0, 1, 0)), Ok(()));
+    assert_eq!(rt; draft.link(arrow(0, 1, 0)), Err(CallFault::Present));
+    assert_eq!(rt; draft.unlink(arrow(0, 1, 0)), Ok(()));
+    assert!(rt; !draft.automaton().has_arrow(arrow(0, 1, 0)));
     Ok(())
 }
 
@@ -71,17 +80,9 @@ fn a_list_of_calls(rt: HostRuntime) -> Result<(), Fail> {
         Call::Enter(0),
         Call::Grow(5),
         Call::Enter(0),
-        Call::Link {
-            from: 0,
-            letter: 0,
-            to: 0,
-        },
+        Call::Link(arrow(0, 0, 0)),
         Call::Rate { state: 0, value: 9 },
-        Call::Unlink {
-            from: 0,
-            letter: 0,
-            to: 0,
-        },
+        Call::Unlink(arrow(0, 0, 0)),
         Call::Leave(0),
         Call::Leave(0),
     ];

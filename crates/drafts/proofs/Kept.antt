@@ -20,8 +20,8 @@ after_all_keeps K P step d (c ∷ cs) h = after_all_keeps K P step (after K d c)
 
 pub effect-signs : (d : DraftModel) (c : Call) → (effect d c).signs ≡ d.signs
 effect-signs d (Grow v) = refl
-effect-signs d (Link p a q) = refl
-effect-signs d (Unlink p a q) = refl
+effect-signs d (Link r) = refl
+effect-signs d (Unlink r) = refl
 effect-signs d (Enter p) = refl
 effect-signs d (Leave p) = refl
 effect-signs d (Rate p v) = refl
@@ -106,8 +106,8 @@ pub effect-proper : (K : KindModel) (d : DraftModel) (c : Call) → Proper K d �
 effect-proper K d (Grow v) h ok =
     let n = length_push d.values v in
     values-proper K d h (d.values ++ v ∷ []) (omega arith) (omega (arith, ltb-true (size d) 32 ok.1.0)) (push-admitted K d h v ok.0)
-effect-proper K d (Link p a q) h ok = arrow-proper K d h p a q true (λ _. ends_from_yes d p a q ok.0 ok.1.0)
-effect-proper K d (Unlink p a q) h ok = arrow-proper K d h p a q false (λ e. absurd (false≢true e))
+effect-proper K d (Link r) h ok = arrow-proper K d h r.from r.letter r.to true (λ _. ends_from_yes d r.from r.letter r.to ok.0 ok.1.0)
+effect-proper K d (Unlink r) h ok = arrow-proper K d h r.from r.letter r.to false (λ e. absurd (false≢true e))
 effect-proper K d (Enter p) h ok = entry-proper K d h p true (λ _. ltb-true p (size d) ok.0)
 effect-proper K d (Leave p) h ok = entry-proper K d h p false (λ e. absurd (false≢true e))
 effect-proper K d (Rate p v) h ok =

@@ -4,9 +4,9 @@ use Rattle.std.proofs.lemmas.List.{append-nil, append_assoc, length_push}
 use Rattle.std.proofs.lemmas.Bool.{true≢false, lt-ltb, le-ltb, eqb-true, and_parts, and_from, and_right}
 use Rattle.kinds.specs.Kinds.{KindModel}
 use Rattle.drafts.specs.declared.calls.Call.{Call}
-use Rattle.drafts.specs.declared.calls.Call.TheVariants.{Grow, Link, Enter}
+use Rattle.drafts.specs.declared.calls.Call.TheVariants.{Grow, Enter}
 use Rattle.automata.specs.Drafts.{DraftModel, size, letters, fresh, with_values, with_entry, with_arrow}
-use Rattle.drafts.specs.Calls.{questions}
+use Rattle.drafts.specs.Calls.{link, questions}
 use Rattle.drafts.specs.Canonical.{Proper, each_below, grow_calls, enter_calls, link_calls, redrawn}
 use Rattle.drafts.proofs.Questions.{none_from_yes}
 use Rattle.automata.proofs.SameDraft.{same-draft}
@@ -87,14 +87,14 @@ module _ (K : KindModel) (d : DraftModel) where
   -- one more arrow of d, or none where d has none there
   runs-link : (n : ℕ → Bool) (r s : ℕ → ℕ → ℕ → Bool) (p a q : ℕ) → p < size d → a < letters d → q < size d → r p a q ≡ false
       → ((x y z : ℕ) → s x y z ≡ (eqb x p && eqb y a && eqb z q || r x y z))
-      → Runs K (part d n r) (cond (d.arrow p a q) (Link p a q ∷ []) []) (part d n s)
+      → Runs K (part d n r) (cond (d.arrow p a q) (link p a q ∷ []) []) (part d n s)
   runs-link n r s p a q lp la lq off next = go (d.arrow p a q) refl
     where
-      go : (b : Bool) → d.arrow p a q ≡ b → Runs K (part d n r) (cond b (Link p a q ∷ []) []) (part d n s)
+      go : (b : Bool) → d.arrow p a q ≡ b → Runs K (part d n r) (cond b (link p a q ∷ []) []) (part d n s)
       go true e =
-          runs_to K (part d n r) (with_arrow (part d n r) p a q true) (part d n s) (Link p a q ∷ [])
-          (runs_one K (part d n r) (Link p a q)
-          (none_from_yes (questions K (part d n r) (Link p a q)) (
+          runs_to K (part d n r) (with_arrow (part d n r) p a q true) (part d n s) (link p a q ∷ [])
+          (runs_one K (part d n r) (link p a q)
+          (none_from_yes (questions K (part d n r) (link p a q)) (
             and_from (ltb p (size d)) (ltb q (size d)) (lt-ltb p (size d) lp) (lt-ltb q (size d) lq),
             (lt-ltb a (letters d) la, (ap not (and_right (d.arrow p a q) (r p a q) off), tt)),
           )))
@@ -120,7 +120,7 @@ module _ (K : KindModel) (d : DraftModel) where
 
   -- the calls of one arrow, of a state and a letter, and of a state
   abbrev arrow_calls : ℕ → ℕ → ℕ → List Call
-  arrow_calls p a q = cond (d.arrow p a q) (Link p a q ∷ []) []
+  arrow_calls p a q = cond (d.arrow p a q) (link p a q ∷ []) []
 
   abbrev letter_calls : ℕ → ℕ → List Call
   letter_calls p a = each_below (size d) (arrow_calls p a)

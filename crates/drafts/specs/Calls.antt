@@ -10,6 +10,10 @@ use Rattle.drafts.specs.declared.calls.Answer.TheVariants.{State, Done}
 use Rattle.automata.specs.Tests.{first_no}
 use Rattle.automata.specs.Drafts.{DraftModel, size, is_state, is_letter, with_values, with_entry, with_arrow}
 
+-- the call that adds the arrow from p by a to q
+abbrev pub link : ℕ → ℕ → ℕ → Call
+link p a q = Link (record { from = p; letter = a; to = q })
+
 abbrev pub call_fault_number : CallFault → ℕ
 call_fault_number NoState = 3
 call_fault_number NoLetter = 4
@@ -21,8 +25,8 @@ call_fault_number Absent = 8
 -- The questions of each call, in their order, with the fault of a no.
 abbrev pub questions : KindModel → DraftModel → Call → List (Bool × CallFault)
 questions K d (Grow v) = (K.admits v, NotAdmitted) ∷ (nat_lt (size d) 32, Full) ∷ []
-questions K d (Link p a q) = (is_state d p && is_state d q, NoState) ∷ (is_letter d a, NoLetter) ∷ (not (d.arrow p a q), Present) ∷ []
-questions K d (Unlink p a q) = (is_state d p && is_state d q, NoState) ∷ (is_letter d a, NoLetter) ∷ (d.arrow p a q, Absent) ∷ []
+questions K d (Link r) = (is_state d r.from && is_state d r.to, NoState) ∷ (is_letter d r.letter, NoLetter) ∷ (not (d.arrow r.from r.letter r.to), Present) ∷ []
+questions K d (Unlink r) = (is_state d r.from && is_state d r.to, NoState) ∷ (is_letter d r.letter, NoLetter) ∷ (d.arrow r.from r.letter r.to, Absent) ∷ []
 questions K d (Enter p) = (is_state d p, NoState) ∷ (not (d.entry p), Present) ∷ []
 questions K d (Leave p) = (is_state d p, NoState) ∷ (d.entry p, Absent) ∷ []
 questions K d (Rate p v) = (is_state d p, NoState) ∷ (K.admits v, NotAdmitted) ∷ []
@@ -30,8 +34,8 @@ questions K d (Rate p v) = (is_state d p, NoState) ∷ (K.admits v, NotAdmitted)
 -- What an accepted call leaves.
 abbrev pub effect : DraftModel → Call → DraftModel
 effect d (Grow v) = with_values d (d.values ++ v ∷ [])
-effect d (Link p a q) = with_arrow d p a q true
-effect d (Unlink p a q) = with_arrow d p a q false
+effect d (Link r) = with_arrow d r.from r.letter r.to true
+effect d (Unlink r) = with_arrow d r.from r.letter r.to false
 effect d (Enter p) = with_entry d p true
 effect d (Leave p) = with_entry d p false
 effect d (Rate p v) = with_values d (slice_set d.values p v)
@@ -39,8 +43,8 @@ effect d (Rate p v) = with_values d (slice_set d.values p v)
 -- What an accepted call answers: a new state's number, or nothing.
 abbrev pub answer : DraftModel → Call → Answer
 answer d (Grow v) = State (size d)
-answer d (Link p a q) = Done
-answer d (Unlink p a q) = Done
+answer d (Link r) = Done
+answer d (Unlink r) = Done
 answer d (Enter p) = Done
 answer d (Leave p) = Done
 answer d (Rate p v) = Done

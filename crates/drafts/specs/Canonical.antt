@@ -2,8 +2,9 @@
 use Rattle.std.specs.Prelude.{◌≡◌, ℕ, zero, suc, ◌<◌, ◌≤◌, true, cond, List, [], ◌∷◌, ◌++◌, map, slice_index}
 use Rattle.kinds.specs.Kinds.{KindModel}
 use Rattle.drafts.specs.declared.calls.Call.{Call}
-use Rattle.drafts.specs.declared.calls.Call.TheVariants.{Grow, Link, Enter}
+use Rattle.drafts.specs.declared.calls.Call.TheVariants.{Grow, Enter}
 use Rattle.automata.specs.Drafts.{DraftModel, size, letters}
+use Rattle.drafts.specs.Calls.{link}
 
 pub record Proper (K : KindModel) (d : DraftModel) : Type 0 where
   pub few : size d ≤ 32
@@ -23,7 +24,7 @@ abbrev pub enter_calls : DraftModel → List Call
 enter_calls d = each_below (size d) (λ p. cond (d.entry p) (Enter p ∷ []) [])
 
 abbrev pub link_calls : DraftModel → List Call
-link_calls d = each_below (size d) (λ p. each_below (letters d) (λ a. each_below (size d) (λ q. cond (d.arrow p a q) (Link p a q ∷ []) [])))
+link_calls d = each_below (size d) (λ p. each_below (letters d) (λ a. each_below (size d) (λ q. cond (d.arrow p a q) (link p a q ∷ []) [])))
 
 -- states by number, then entry states by number, then arrows by from-state, letter and to-state
 abbrev pub redrawn : DraftModel → List Call

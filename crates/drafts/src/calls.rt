@@ -1,20 +1,14 @@
+use automata::arrow::Arrow;
+
 // A call on a draft, as data. States and letters are any numbers, values any codes.
 #[derive(Clone, Copy, PartialEq, Eq, Debug)]
 pub enum Call {
     // add a state with a value
     Grow(u8),
     // add an arrow
-    Link {
-        from: usize,
-        letter: usize,
-        to: usize,
-    },
+    Link(Arrow),
     // remove an arrow
-    Unlink {
-        from: usize,
-        letter: usize,
-        to: usize,
-    },
+    Unlink(Arrow),
     // make a state an entry state
     Enter(usize),
     // end that

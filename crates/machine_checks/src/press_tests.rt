@@ -1,4 +1,5 @@
 use crate::counter::Counter;
+use automata::arrow::Arrow;
 use automata::signs::Signs;
 use drafts::draft::Draft;
 use kinds::marks::M;
@@ -205,9 +206,9 @@ fn marked() -> Result<Draft<M>, Fail> {
     draft.grow(2)?;
     draft.enter(0)?;
     draft.enter(1)?;
-    draft.link(0, 0, 0)?;
-    draft.link(1, 0, 1)?;
-    draft.link(1, 1, 1)?;
+    for (from, letter, to) in [(0, 0, 0), (1, 0, 1), (1, 1, 1)] {
+        draft.link(Arrow { from, letter, to })?;
+    }
     Ok(draft)
 }
 
@@ -277,12 +278,9 @@ fn told() -> Result<Draft<Y>, Fail> {
     draft.grow(1)?;
     draft.grow(1)?;
     draft.enter(0)?;
-    draft.link(0, 0, 1)?;
-    draft.link(0, 0, 2)?;
-    draft.link(1, 0, 3)?;
-    draft.link(2, 1, 3)?;
-    draft.link(3, 0, 3)?;
-    draft.link(3, 1, 3)?;
+    for (from, letter, to) in [(0, 0, 1), (0, 0, 2), (1, 0, 3), (2, 1, 3), (3, 0, 3), (3, 1, 3)] {
+        draft.link(Arrow { from, letter, to })?;
+    }
     Ok(draft)
 }
 

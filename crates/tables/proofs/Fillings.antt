@@ -3,8 +3,7 @@ use Rattle.std.proofs.Common.{◌≡◌, ℕ, suc, ◌+◌, ◌*◌, ◌/◌, �
 use lib.ListN.{length-replicate}
 use Rattle.std.proofs.lemmas.List.{get_or-take, get_or_default, get_or_past, get_or-set_other, get_or-replicate, take_more_set, length-take-le}
 use Rattle.std.proofs.lemmas.Bool.{cases_eq, cases_lt, eq-eqb, ne_eqb}
-use Rattle.automata.proofs.ArrowLaws.{written, written-ends, written-rows}
-use Rattle.automata.proofs.ShownLaws.{set-bytes, set-blank}
+use Rattle.tables.proofs.Written.{written, written-ends, written-rows, set-bytes, set-blank}
 use Rattle.automata.proofs.SignLaws.{decides_counted, accepted-parts}
 use Rattle.drafts.proofs.Tabulates.{length-tabulate, get_d_tabulate, is_tabulate, tabulate-more}
 use Rattle.machines.specs.Models.{MachineModel, alphabet, Spread}

@@ -1,4 +1,5 @@
 pub mod Cells
+pub mod Written
 pub mod GridLaws
 pub mod Fillings
 pub mod Filled

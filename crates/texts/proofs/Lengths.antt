@@ -4,12 +4,14 @@ use Rattle.std.proofs.lemmas.Bool.{cond_both}
 use Rattle.std.proofs.lemmas.Fmt.{length-decimal-le}
 use Rattle.fields.proofs.Numerals.{length-decimal}
 use Rattle.drafts.specs.declared.calls.Call.{Call}
-use Rattle.drafts.specs.declared.calls.Call.TheVariants.{Grow, Enter, Link}
+use Rattle.drafts.specs.declared.calls.Call.TheVariants.{Grow, Enter}
 use Rattle.automata.specs.declared.automaton.Automaton.{Automaton}
 use Rattle.automata.specs.Drafts.{DraftModel, size, letters}
 use Rattle.drafts.specs.Canonical.{each_below, grow_calls, enter_calls, link_calls}
+use Rattle.automata.specs.Held.{row_of}
 use Rattle.automata.specs.Shown.{shown}
 use Rattle.automata.proofs.ShownLaws.{shown-size, shown-letters, shown-code}
+use Rattle.drafts.specs.Calls.{link}
 use Rattle.texts.specs.declared.letters.KindLetter.{KindLetter}
 use Rattle.texts.specs.declared.faults.Refusal.{Refusal}
 use Rattle.texts.specs.Grammar.{head_fields, written}
@@ -37,7 +39,7 @@ module _ (signs : List ℕ) where
   pub length_enter : (p : ℕ) → p < 256 → length (call_lines signs (Enter p ∷ [])) ≤ 6
   length_enter p h = simp length-append (omega (arith, length-decimal p (omega arith)))
 
-  pub length_link : (p a q : ℕ) → p < 256 → q < 256 → length (call_lines signs (Link p a q ∷ [])) ≤ 12
+  pub length_link : (p a q : ℕ) → p < 256 → q < 256 → length (call_lines signs (link p a q ∷ [])) ≤ 12
   length_link p a q hp hq = simp length-append (omega (arith, length-decimal p (omega arith), length-decimal q (omega arith)))
 
   -- calls under a test
@@ -70,7 +72,7 @@ module _ (d : DraftModel) (few : size d ≤ 32) (lettered : letters d ≤ 16) (b
       omega (
         arith,
         length-each d.signs (size d) 12 (link_call d p a)
-            (λ q m. length_when d.signs (d.arrow p a q) (Link p a q ∷ []) 12 (length_link d.signs p a q (omega arith) (omega arith))),
+            (λ q m. length_when d.signs (d.arrow p a q) (link p a q ∷ []) 12 (length_link d.signs p a q (omega arith) (omega arith))),
       )
 
   pub length-links_from : (p : ℕ) → p < size d → length (call_lines d.signs (links_from d p)) ≤ 6144
@@ -99,7 +101,7 @@ module _ (d : DraftModel) (few : size d ≤ 32) (lettered : letters d ≤ 16) (b
 pub length-shown : (k : KindLetter) (d : Automaton) → length (written k (shown d)) ≤ 197013
 length-shown k d =
     length-written (shown d) (omega (arith, shown-size d, d.few)) (omega (arith, shown-letters d, d.signs.few))
-    (λ p l. let m : p < d.count = omega (arith, shown-size d) in omega (arith, shown-code d p m, d.bytes p)) k
+    (λ p l. let m : p < d.count = omega (arith, shown-size d) in omega (arith, shown-code d p m, (row_of d.rows p).byte)) k
 
 -- a number of 64 bits has at most 20 digits
 pub length-number : (n : ℕ) → n < 2 ^ 64 → length (decimal n) ≤ 20

@@ -11,10 +11,10 @@ use Rattle.std.proofs.lemmas.Fmt.{digits_value-decimal}
 use Rattle.automata.specs.declared.faults.SignFault.{SignFault}
 use Rattle.drafts.specs.declared.faults.CallFault.{CallFault}
 use Rattle.drafts.specs.declared.calls.Call.{Call}
-use Rattle.drafts.specs.declared.calls.Call.TheVariants.{Grow, Link, Enter}
+use Rattle.drafts.specs.declared.calls.Call.TheVariants.{Grow, Enter}
 use Rattle.automata.specs.Signs.{sign_fault}
 use Rattle.automata.specs.Drafts.{DraftModel}
-use Rattle.drafts.specs.Calls.{unless, refusal, effect}
+use Rattle.drafts.specs.Calls.{link, unless, refusal, effect}
 use Rattle.texts.specs.declared.letters.KindLetter.{KindLetter}
 use Rattle.texts.specs.declared.faults.FieldFault.TheVariants.{Number, NotListed}
 use Rattle.texts.specs.declared.faults.LineFault.{LineFault}
@@ -77,7 +77,7 @@ abbrev pub call_of : List ℕ → ℕ → List (List ℕ) → Call
 call_of signs t fs =
     cond (eqb t 83) (Grow (number_in (get_or fs 0 [])))
     (cond (eqb t 69) (Enter (number_in (get_or fs 0 [])))
-    (Link (number_in (get_or fs 0 [])) (letter_in signs (get_or fs 1 [])) (number_in (get_or fs 2 []))))
+    (link (number_in (get_or fs 0 [])) (letter_in signs (get_or fs 1 [])) (number_in (get_or fs 2 []))))
 
 abbrev pub call_read : List ℕ → ℕ → List (List ℕ) → Result Call LineFault
 call_read signs t fs = unless (shape_fault signs (call_forms t) fs) (call_of signs t fs)
@@ -152,7 +152,7 @@ module _ (signs : List ℕ) where
   module _ (rest f g h : List ℕ) (three : pieces 9 rest ≡ f ∷ g ∷ h ∷ []) where
     -- the three fields, and the call that they make
     abbrev link_as : Result ℕ NumberFault → Bool → Result ℕ NumberFault → Result Call LineFault
-    link_as r b s = link_read r b s (Link (number_in f) (letter_in signs g) (number_in h))
+    link_as r b s = link_read r b s (link (number_in f) (letter_in signs g) (number_in h))
 
     link-line : call_of_line signs (76 ∷ 9 ∷ rest) ≡ link_as (number_of f) (listed signs g) (number_of h)
     link-line = call_by_fields 76 rest (f ∷ g ∷ h ∷ []) three
@@ -170,12 +170,12 @@ module _ (signs : List ℕ) where
       pub link_to : (x : NumberFault) → listed signs g ≡ true → number_of h ≡ Err x → call_of_line signs (76 ∷ 9 ∷ rest) ≡ Err (line.Field 4 (Number x))
       link_to x e n = link-last e ∙ ap (link_as (Ok p) true) n
 
-      pub link_ok : (q : ℕ) → listed signs g ≡ true → number_of h ≡ Ok q → call_of_line signs (76 ∷ 9 ∷ rest) ≡ Ok (Link p (letter_in signs g) q)
+      pub link_ok : (q : ℕ) → listed signs g ≡ true → number_of h ≡ Ok q → call_of_line signs (76 ∷ 9 ∷ rest) ≡ Ok (link p (letter_in signs g) q)
       link_ok q e n =
           link-last e
           ∙ (ap (link_as (Ok p) true) n
-          ∙ (ap (λ (k : ℕ). Ok (Link k (letter_in signs g) (number_in h))) (number_in_lem f p from)
-          ∙ ap (λ (k : ℕ). Ok (Link p (letter_in signs g) k)) (number_in_lem h q n)))
+          ∙ (ap (λ (k : ℕ). Ok (link k (letter_in signs g) (number_in h))) (number_in_lem f p from)
+          ∙ ap (λ (k : ℕ). Ok (link p (letter_in signs g) k)) (number_in_lem h q n)))
 
 -- ---- a line on a draft
 

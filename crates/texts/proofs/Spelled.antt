@@ -9,6 +9,7 @@ use Rattle.fields.proofs.Numerals.{number-reads, number-decimal, decimal_free_ta
 use Rattle.automata.specs.declared.faults.SignFault.{SignFault}
 use Rattle.drafts.specs.declared.calls.Call.{Call}
 use Rattle.drafts.specs.declared.calls.Call.TheVariants.{Grow, Link, Unlink, Enter, Leave, Rate}
+use Rattle.drafts.specs.Calls.{link}
 use Rattle.automata.specs.Signs.{sign_fault}
 use Rattle.texts.specs.declared.letters.KindLetter.{KindLetter}
 use Rattle.texts.specs.declared.letters.KindLetter.TheVariants.{Y, R, M}
@@ -29,6 +30,16 @@ module _ (signs : List ℕ) (ok : sign_fault signs ≡ None) where
   sign-free : (b a : ℕ) → b < 33 → a < length signs → Free b (get_or signs a 0 ∷ [])
   sign-free b a h l = free_cons b (get_or signs a 0) [] (λ e. omega (arith, sign_visible signs ok a l)) (free_nil b)
 
+  link_reads : (p a q : ℕ) → HasLine signs (link p a q) → call_of_line signs (line_of (call_fields signs (link p a q))) ≡ Ok (link p a q)
+  link_reads p a q h =
+      let place = place_of_sign signs ok a h.1 in
+      link_ok signs (decimal p ++ (9 ∷ get_or signs a 0 ∷ 9 ∷ (decimal q ++ []))) (decimal p) (get_or signs a 0 ∷ []) (decimal q)
+      (three_fields_lem _ (decimal p) _ (get_or signs a 0 ∷ []) (decimal q) refl
+      (ap (λ (f : List ℕ). get_or signs a 0 ∷ 9 ∷ f) (append-nil (decimal q)))
+      (decimal_free_tab p (omega (arith, h.0))) (sign-free 9 a (omega arith) h.1) (decimal_free_tab q (omega (arith, h.2))))
+      p (number-decimal p h.0) q (listed-one signs (get_or signs a 0) (omega (arith, h.1))) (number-decimal q h.2)
+      ∙ ap (λ (k : ℕ). Ok (link p k q)) place
+
   pub call_reads : (c : Call) → HasLine signs c → call_of_line signs (line_of (call_fields signs c)) ≡ Ok c
   call_reads (Grow v) h =
       ap (λ (f : List ℕ). call_of_line signs (83 ∷ 9 ∷ f)) (append-nil (decimal v))
@@ -36,15 +47,8 @@ module _ (signs : List ℕ) (ok : sign_fault signs ≡ None) where
   call_reads (Enter p) h =
       ap (λ (f : List ℕ). call_of_line signs (69 ∷ 9 ∷ f)) (append-nil (decimal p))
       ∙ enter_ok signs (decimal p) p (decimal_free_tab p (omega arith)) (number-decimal p h)
-  call_reads (Link p a q) h =
-      let place = place_of_sign signs ok a h.1 in
-      link_ok signs (decimal p ++ (9 ∷ get_or signs a 0 ∷ 9 ∷ (decimal q ++ []))) (decimal p) (get_or signs a 0 ∷ []) (decimal q)
-      (three_fields_lem _ (decimal p) _ (get_or signs a 0 ∷ []) (decimal q) refl
-      (ap (λ (f : List ℕ). get_or signs a 0 ∷ 9 ∷ f) (append-nil (decimal q)))
-      (decimal_free_tab p (omega (arith, h.0))) (sign-free 9 a (omega arith) h.1) (decimal_free_tab q (omega (arith, h.2))))
-      p (number-decimal p h.0) q (listed-one signs (get_or signs a 0) (omega (arith, h.1))) (number-decimal q h.2)
-      ∙ ap (λ (k : ℕ). Ok (Link p k q)) place
-  call_reads (Unlink p a q) h = absurd h
+  call_reads (Link r) h = link_reads r.from r.letter r.to h
+  call_reads (Unlink r) h = absurd h
   call_reads (Leave p) h = absurd h
   call_reads (Rate p v) h = absurd h
 
@@ -130,14 +134,14 @@ module _ (signs : List ℕ) where
   link-spelled (f ∷ []) c h = absurd (fault_not_ok _ c h)
   link-spelled (f ∷ g ∷ []) c h = absurd (fault_not_ok _ c h)
   link-spelled (f ∷ g ∷ k ∷ []) c h =
-      let o = linked_ok (number_of f) (listed signs g) (number_of k) (Link (number_in f) (letter_in signs g) (number_in k)) c h in
+      let o = linked_ok (number_of f) (listed signs g) (number_of k) (link (number_in f) (letter_in signs g) (number_in k)) c h in
       let p = (number-reads f o.0).0 o.2 in
       let q = (number-reads k o.1).0 o.4 in
       let s = listed_sign signs g o.3 in
-      let is : c ≡ Link o.0 (letter_in signs g) o.1 =
+      let is : c ≡ link o.0 (letter_in signs g) o.1 =
       o.5
-      ∙ (ap (λ (n : ℕ). Link n (letter_in signs g) (number_in k)) (number_in_lem f o.0 o.2)
-      ∙ ap (λ (n : ℕ). Link o.0 (letter_in signs g) n) (number_in_lem k o.1 o.4)) in
+      ∙ (ap (λ (n : ℕ). link n (letter_in signs g) (number_in k)) (number_in_lem f o.0 o.2)
+      ∙ ap (λ (n : ℕ). link o.0 (letter_in signs g) n) (number_in_lem k o.1 o.4)) in
       subst (SpellsCall signs (link_line f g k)) (sym is) (
         (p.0, s.0, q.0),
         ap (λ (x : List ℕ). link_line x g k) p.1
@@ -256,11 +260,11 @@ module _ (signs : List ℕ) (ok : sign_fault signs ≡ None) where
   fields_free : (c : Call) → HasLine signs c → AllFree 10 (call_fields signs c)
   fields_free (Grow v) h = (free_one 10 83 (λ e. omega arith), (decimal_free_newline v (omega arith), tt))
   fields_free (Enter p) h = (free_one 10 69 (λ e. omega arith), (decimal_free_newline p (omega arith), tt))
-  fields_free (Link p a q) h =
-      let from = decimal_free_newline p (omega (arith, h.0)) in
-      let to = decimal_free_newline q (omega (arith, h.2)) in
-      (free_one 10 76 (λ e. omega arith), (from, (sign-free signs ok 10 a (omega arith) h.1, (to, tt))))
-  fields_free (Unlink p a q) h = absurd h
+  fields_free (Link r) h =
+      let from = decimal_free_newline r.from (omega (arith, h.0)) in
+      let to = decimal_free_newline r.to (omega (arith, h.2)) in
+      (free_one 10 76 (λ e. omega arith), (from, (sign-free signs ok 10 r.letter (omega arith) h.1, (to, tt))))
+  fields_free (Unlink r) h = absurd h
   fields_free (Leave p) h = absurd h
   fields_free (Rate p v) h = absurd h
 

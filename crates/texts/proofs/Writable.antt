@@ -3,9 +3,10 @@ use Rattle.std.proofs.Common.{◌≡◌, ℕ, zero, suc, ◌<◌, ◌≤◌, Boo
 use Rattle.std.proofs.lemmas.Bool.{ltb-true, cases_lt}
 use Rattle.std.proofs.lemmas.List.{get_or_past}
 use Rattle.drafts.specs.declared.calls.Call.{Call}
-use Rattle.drafts.specs.declared.calls.Call.TheVariants.{Grow, Link, Enter}
+use Rattle.drafts.specs.declared.calls.Call.TheVariants.{Grow, Enter}
 use Rattle.automata.specs.Drafts.{DraftModel, size, letters}
 use Rattle.drafts.specs.Canonical.{Proper, each_below, grow_calls, enter_calls, link_calls, redrawn}
+use Rattle.drafts.specs.Calls.{link}
 use Rattle.texts.specs.declared.letters.KindLetter.{KindLetter}
 use Rattle.texts.specs.declared.letters.KindLetter.TheVariants.{Y, R, M}
 use Rattle.texts.specs.Grammar.{kind_of, AllHaveLines}
@@ -34,7 +35,7 @@ redrawn-lines d few small =
     (all_lines_append d.signs (enter_calls d) (link_calls d)
     (all_lines_below d.signs (size d) _ (λ p l. all_lines_if d.signs (d.entry p) (Enter p ∷ []) (omega arith, tt)))
     (all_lines_below d.signs (size d) _ (λ p lp. all_lines_below d.signs (letters d) _ (λ a la. all_lines_below d.signs (size d) _
-    (λ q lq. all_lines_if d.signs (d.arrow p a q) (Link p a q ∷ []) ((omega arith, la, omega arith), tt))))))
+    (λ q lq. all_lines_if d.signs (d.arrow p a q) (link p a q ∷ []) ((omega arith, la, omega arith), tt))))))
 
 -- every value of a proper draft of a delivered kind is a byte
 pub value_small : (k : KindLetter) (d : DraftModel) → Proper (kind_of k) d → (i : ℕ) → get_or d.values i 0 < 256

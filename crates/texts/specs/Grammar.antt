@@ -34,8 +34,8 @@ head_fields k signs = (68 ∷ []) ∷ (letter_byte k ∷ []) ∷ signs ∷ []
 abbrev pub call_fields : List ℕ → Call → List (List ℕ)
 call_fields signs (Grow v) = (83 ∷ []) ∷ decimal v ∷ []
 call_fields signs (Enter p) = (69 ∷ []) ∷ decimal p ∷ []
-call_fields signs (Link p a q) = (76 ∷ []) ∷ decimal p ∷ (slice_index signs a ∷ []) ∷ decimal q ∷ []
-call_fields signs (Unlink p a q) = []
+call_fields signs (Link r) = (76 ∷ []) ∷ decimal r.from ∷ (slice_index signs r.letter ∷ []) ∷ decimal r.to ∷ []
+call_fields signs (Unlink r) = []
 call_fields signs (Leave p) = []
 call_fields signs (Rate p v) = []
 
@@ -43,8 +43,8 @@ call_fields signs (Rate p v) = []
 abbrev pub HasLine : List ℕ → Call → Type 0
 HasLine signs (Grow v) = v < 256
 HasLine signs (Enter p) = p < 256
-HasLine signs (Link p a q) = (p < 256) × (a < length signs) × (q < 256)
-HasLine signs (Unlink p a q) = ⊥
+HasLine signs (Link r) = (r.from < 256) × (r.letter < length signs) × (r.to < 256)
+HasLine signs (Unlink r) = ⊥
 HasLine signs (Leave p) = ⊥
 HasLine signs (Rate p v) = ⊥
 

@@ -6,10 +6,10 @@ use Rattle.fields.specs.declared.numbers.NumberFault.{NumberFault}
 use Rattle.fields.specs.Pieces.{pieces}
 use Rattle.fields.specs.Numbers.{number_of}
 use Rattle.drafts.specs.declared.calls.Call.{Call}
-use Rattle.drafts.specs.declared.calls.Call.TheVariants.{Grow, Link, Enter}
+use Rattle.drafts.specs.declared.calls.Call.TheVariants.{Grow, Enter}
 use Rattle.automata.specs.Signs.{sign_fault}
 use Rattle.automata.specs.Drafts.{DraftModel, fresh}
-use Rattle.drafts.specs.Calls.{refusal, effect, unless}
+use Rattle.drafts.specs.Calls.{link, refusal, effect, unless}
 use Rattle.texts.specs.declared.letters.KindLetter.{KindLetter}
 use Rattle.texts.specs.declared.letters.KindLetter.TheVariants.{Y, R, M}
 use Rattle.texts.specs.declared.faults.FieldFault.{FieldFault}
@@ -119,7 +119,7 @@ abbrev pub call_in : List ℕ → List ℕ → Call
 call_in signs l =
     cond (tag_of l == 83) (Grow (number_in (field l 0)))
     (cond (tag_of l == 69) (Enter (number_in (field l 0)))
-    (Link (number_in (field l 0)) (letter_in signs (field l 1)) (number_in (field l 2))))
+    (link (number_in (field l 0)) (letter_in signs (field l 1)) (number_in (field l 2))))
 
 abbrev pub call_of_line : List ℕ → List ℕ → Result Call LineFault
 call_of_line signs l = unless (line_fault signs call_forms l) (call_in signs l)

@@ -2,9 +2,10 @@
 use Rattle.std.specs.Prelude.{ℕ, cond, List, [], ◌∷◌, ◌++◌, map, decimal, slice_index}
 use Rattle.fields.specs.Pieces.{ended}
 use Rattle.drafts.specs.declared.calls.Call.{Call}
-use Rattle.drafts.specs.declared.calls.Call.TheVariants.{Grow, Enter, Link}
+use Rattle.drafts.specs.declared.calls.Call.TheVariants.{Grow, Enter}
 use Rattle.automata.specs.Drafts.{DraftModel, size, letters}
 use Rattle.drafts.specs.Canonical.{each_below}
+use Rattle.drafts.specs.Calls.{link}
 use Rattle.texts.specs.declared.faults.Refusal.{Refusal}
 use Rattle.texts.specs.Grammar.{line_of, call_fields}
 
@@ -25,7 +26,7 @@ abbrev pub enter_call : DraftModel → ℕ → List Call
 enter_call d p = cond (d.entry p) (Enter p ∷ []) []
 
 abbrev pub link_call : DraftModel → ℕ → ℕ → ℕ → List Call
-link_call d p a q = cond (d.arrow p a q) (Link p a q ∷ []) []
+link_call d p a q = cond (d.arrow p a q) (link p a q ∷ []) []
 
 abbrev pub links_by : DraftModel → ℕ → ℕ → List Call
 links_by d p a = each_below (size d) (link_call d p a)

@@ -7,6 +7,7 @@ ghost use Rattle.texts.specs.Gives.{HeadRead};
 
 use crate::faults::{FieldFault, LineFault, at};
 use crate::letters::KindLetter;
+use automata::arrow::Arrow;
 use automata::signs::Signs;
 use drafts::calls::Call;
 use fields::cutting::cut;
@@ -115,11 +116,11 @@ fn read_arrow(signs: &[u8], rest: &[u8]) -> Result<Call, LineFault>
         });
     };
     let to = at(4u8, read_number(third))?;
-    Ok(Call::Link {
+    Ok(Call::Link(Arrow {
         from: usize::from(from),
         letter,
         to: usize::from(to),
-    })
+    }))
 }
 
 // The call that a line after the first stands for.

@@ -12,6 +12,7 @@ ghost use Rattle.texts.specs.Writing.{ended_line, call_lines, grow_call, enter_c
 use crate::any::AnyDraft;
 use crate::faults::Refusal;
 use crate::letters::KindLetter;
+use automata::arrow::Arrow;
 use automata::automaton::Automaton;
 use fields::writing::Writer;
 pub use fields::written::WriteFault;
@@ -88,7 +89,7 @@ fn put_arrow(automaton: &Automaton, from: usize, letter: usize, to: usize, out: 
     requires { letter < letters (shown automaton.now) }
     ensures { Puts out.old out.new (call_lines (shown automaton.now).signs (link_call (shown automaton.now) from letter to)) }
 {
-    if automaton.has_arrow(from, letter, to) {
+    if automaton.has_arrow(Arrow { from, letter, to }) {
         put_arrow_line(from, automaton.signs()[letter], to, out);
     }
 }

@@ -8,6 +8,7 @@ ghost use Rattle.views.specs.DraftViews.{join_over, code_of_state, ends_joined, 
 
 use crate::colouring::Colouring;
 use crate::forward_draft::code_at;
+use automata::arrow::Arrow;
 use automata::automaton::Automaton;
 use automata::signs::Signs;
 use drafts::draft::Draft;
@@ -38,7 +39,11 @@ fn join_ends<K: Kind>(
     let count = automaton.state_count();
     let mut joined = K::none();
     for q in 0..count {
-        if automaton.has_arrow(from, letter, q) {
+        if automaton.has_arrow(Arrow {
+            from,
+            letter,
+            to: q,
+        }) {
             joined = K::join(joined, colouring.code::<K>(q));
         }
     }

@@ -8,6 +8,7 @@ ghost use Rattle.views.specs.DraftViews.{join_over, code_of_state, leads_into, f
 ghost use Rattle.views.specs.Those.{those};
 
 use crate::states::Reached;
+use automata::arrow::Arrow;
 use automata::automaton::Automaton;
 use automata::sets::StateSet;
 use automata::signs::Signs;
@@ -43,7 +44,12 @@ fn leads_to(automaton: &Automaton, set: StateSet, letter: usize, to: usize) -> b
 {
     let count = automaton.state_count();
     for p in 0..count {
-        if set.has(p) && automaton.has_arrow(p, letter, to) {
+        let arrow = Arrow {
+            from: p,
+            letter,
+            to,
+        };
+        if set.has(p) && automaton.has_arrow(arrow) {
             return true;
         }
     }

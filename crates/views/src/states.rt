@@ -24,7 +24,7 @@ impl State for Reached {
     }
 
     fn same(&self, other: &Reached) -> bool {
-        self.set.bits() == other.set.bits()
+        self.set == other.set
     }
 }
 

@@ -1,9 +1,11 @@
-ghost use Rattle.std.specs.Prelude.{◌≡◌, Bool, ◌&&◌, [], ◌∷◌, ◌++◌, length, if◌then◌else◌, Some, None, nat_lt, slice_set};
+ghost use Rattle.std.specs.Prelude.{◌≡◌, Bool, ◌&&◌, [], ◌∷◌, ◌++◌, length, if◌then◌else◌, nat_lt, slice_set};
 ghost use Rattle.automata.specs.Drafts.{is_state, is_letter};
 ghost use Rattle.automata.specs.Drafts.{size, letters, fresh, with_values, with_entry, with_arrow};
 ghost use Rattle.automata.specs.Shown.{sign_bytes, shown};
 
+use crate::arrow::Arrow;
 use crate::automaton::Automaton;
+use crate::row::Row;
 use crate::sets::StateSet;
 use crate::signs::Signs;
 
@@ -15,9 +17,8 @@ impl Automaton {
         Automaton {
             signs,
             count: 0,
-            codes: [0; 32],
-            entries: StateSet::empty(),
-            arrows: [[0; 16]; 32],
+            rows: [Row::blank(); 32],
+            entry_set: StateSet::empty(),
         }
     }
 
@@ -26,7 +27,7 @@ impl Automaton {
         ensures { shown self.new ≡ (if nat_lt (size (shown self.old)) 32 then with_values (shown self.old) ((shown self.old).values ++ code ∷ []) else shown self.old) }
     {
         if self.count < 32 {
-            self.codes[self.count] = code;
+            self.rows[self.count].code = code;
             self.count += 1;
         }
     }
@@ -36,7 +37,7 @@ impl Automaton {
         ensures { shown self.new ≡ with_values (shown self.old) (slice_set (shown self.old).values state code) }
     {
         if state < self.count {
-            self.codes[state] = code;
+            self.rows[state].code = code;
         }
     }
 
@@ -45,17 +46,18 @@ impl Automaton {
         ensures { shown self.new ≡ (if is_state (shown self.old) state then with_entry (shown self.old) state on else shown self.old) }
     {
         if state < self.count {
-            self.entries = self.entries.put(state, on);
+            self.entry_set = self.entry_set.put(state, on);
         }
     }
 
     // Adds or removes an arrow; changes nothing where a state or the letter does not exist.
-    pub fn set_arrow(&mut self, from: usize, letter: usize, to: usize, on: bool)
-        ensures { shown self.new ≡ (if is_state (shown self.old) from && is_state (shown self.old) to && is_letter (shown self.old) letter then with_arrow (shown self.old) from letter to on else shown self.old) }
+    pub fn set_arrow(&mut self, arrow: Arrow, on: bool)
+        ensures { shown self.new ≡ (if is_state (shown self.old) arrow.from && is_state (shown self.old) arrow.to && is_letter (shown self.old) arrow.letter then with_arrow (shown self.old) arrow.from arrow.letter arrow.to on else shown self.old) }
     {
+        let Arrow { from, letter, to } = arrow;
         if from < self.count && to < self.count && letter < self.signs.len() {
-            let ends = StateSet::from_bits(self.arrows[from][letter]);
-            self.arrows[from][letter] = ends.put(to, on).bits();
+            let ends = self.ends(from, letter).put(to, on);
+            self.rows[from] = self.rows[from].with_ends(letter, ends);
         }
     }
 }

@@ -1,7 +1,9 @@
-ghost use Rattle.std.specs.Prelude.{◌≡◌, length, if◌then◌else◌, Some, None, slice_index};
+ghost use Rattle.std.specs.Prelude.{◌≡◌, ℕ, if◌then◌else◌, Some, None, slice_index};
+ghost use Rattle.automata.specs.Sets.{has};
 ghost use Rattle.automata.specs.Drafts.{size, is_state};
 ghost use Rattle.automata.specs.Shown.{shown};
 
+use crate::arrow::Arrow;
 use crate::automaton::Automaton;
 use crate::sets::StateSet;
 use crate::signs::Signs;
@@ -30,22 +32,35 @@ impl Automaton {
     pub fn code(&self, state: usize) -> Option<u8>
         ensures { result ≡ (if is_state (shown self.now) state then Some (slice_index (shown self.now).values state) else None) }
     {
-        if state < self.count {
-            Some(self.codes[state])
-        } else {
-            None
-        }
+        self.rows[..self.count].get(state).map(|row| row.code)
+    }
+
+    // The set of the entry states.
+    pub fn entries(&self) -> StateSet
+        ensures { (p : ℕ) → has result p ≡ (shown self.now).entry p }
+    {
+        self.entry_set
     }
 
     pub fn is_entry(&self, state: usize) -> bool
         ensures { result ≡ (shown self.now).entry state }
     {
-        self.entries.has(state)
+        self.entries().has(state)
     }
 
-    pub fn has_arrow(&self, from: usize, letter: usize, to: usize) -> bool
-        ensures { result ≡ (shown self.now).arrow from letter to }
+    // The set of the ends of the arrows from a state by a letter; no state where there is no such state or letter.
+    pub fn ends(&self, from: usize, letter: usize) -> StateSet
+        ensures { (q : ℕ) → has result q ≡ (shown self.now).arrow from letter q }
     {
-        from < 32 && letter < 16 && StateSet::from_bits(self.arrows[from][letter]).has(to)
+        match self.rows.get(from) {
+            Some(row) => row.ends(letter),
+            None => StateSet::empty(),
+        }
+    }
+
+    pub fn has_arrow(&self, arrow: Arrow) -> bool
+        ensures { result ≡ (shown self.now).arrow arrow.from arrow.letter arrow.to }
+    {
+        self.ends(arrow.from, arrow.letter).has(arrow.to)
     }
 }

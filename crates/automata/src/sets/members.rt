@@ -3,25 +3,29 @@ ghost use Rattle.automata.specs.Sets.{has, no_states};
 
 use crate::sets::StateSet;
 
+// The set whose members are the places of the bits of `bits`.
+impl From<u32> for StateSet {
+    ghost from_gives = { λ bits set. set.bits ≡ bits };
+
+    fn from(bits: u32) -> StateSet {
+        StateSet { bits }
+    }
+}
+
+impl From<StateSet> for u32 {
+    ghost from_gives = { λ set bits. bits ≡ set.bits };
+
+    fn from(set: StateSet) -> u32 {
+        set.bits
+    }
+}
+
 impl StateSet {
     // The set with no member.
     pub fn empty() -> StateSet
         ensures { result ≡ no_states }
     {
         StateSet { bits: 0 }
-    }
-
-    // The set whose members are the places of the bits of `bits`.
-    pub fn from_bits(bits: u32) -> StateSet
-        ensures { result.bits ≡ bits }
-    {
-        StateSet { bits }
-    }
-
-    pub fn bits(self) -> u32
-        ensures { result ≡ self.bits }
-    {
-        self.bits
     }
 
     // Whether `state` is a member; no number from 32 on is one.

@@ -1,14 +1,15 @@
-ghost use Rattle.std.specs.Prelude.{◌≡◌, true, ◌&&◌, [], ◌∷◌, is_err};
+ghost use Rattle.std.specs.Prelude.{◌≡◌, not, ◌&&◌, [], ◌∷◌, if◌then◌else◌};
 ghost use Rattle.drafts.specs.declared.calls.Call.TheVariants.{Grow, Link, Unlink, Enter, Leave, Rate};
-ghost use Rattle.drafts.specs.declared.faults.CallFault.TheVariants.{NoState, NoLetter};
+ghost use Rattle.drafts.specs.declared.faults.CallFault.TheVariants.{NoState, NoLetter, Present, Absent};
 ghost use Rattle.automata.specs.Tests.{first_no};
 ghost use Rattle.automata.specs.Drafts.{size, is_state, is_letter};
-ghost use Rattle.drafts.specs.Calls.{refusal, after, unless};
 ghost use Rattle.automata.specs.Shown.{shown};
-ghost use Rattle.drafts.specs.Drawn.{drawn};
+ghost use Rattle.drafts.specs.Calls.{unless};
+ghost use Rattle.drafts.specs.Drawn.{drawn, Made};
 
 use crate::draft::Draft;
 use crate::faults::CallFault;
+use automata::arrow::Arrow;
 use automata::automaton::Automaton;
 use kinds::kind::Kind;
 
@@ -23,31 +24,34 @@ fn check_state(automaton: &Automaton, state: usize) -> Result<(), CallFault>
     }
 }
 
-// Whether two states and a letter exist, in this order.
-fn check_arrow(
-    automaton: &Automaton,
-    from: usize,
-    letter: usize,
-    to: usize,
-) -> Result<(), CallFault>
-    ensures { result ≡ unless (first_no ((is_state (shown automaton.now) from && is_state (shown automaton.now) to, NoState) ∷ (is_letter (shown automaton.now) letter, NoLetter) ∷ [])) tt }
+// Whether the states and the letter of an arrow exist, in this order.
+fn check_arrow(automaton: &Automaton, arrow: Arrow) -> Result<(), CallFault>
+    ensures { result ≡ unless (first_no ((is_state (shown automaton.now) arrow.from && is_state (shown automaton.now) arrow.to, NoState) ∷ (is_letter (shown automaton.now) arrow.letter, NoLetter) ∷ [])) tt }
 {
-    let count = automaton.state_count();
-    if from >= count || to >= count {
-        return Err(CallFault::NoState);
+    check_state(automaton, arrow.from)?;
+    check_state(automaton, arrow.to)?;
+    if arrow.letter < automaton.signs().len() {
+        Ok(())
+    } else {
+        Err(CallFault::NoLetter)
     }
-    if letter >= automaton.signs().len() {
-        return Err(CallFault::NoLetter);
+}
+
+// Whether what is there or not can be added, where `on`, or else removed.
+fn check_change(there: bool, on: bool) -> Result<(), CallFault>
+    ensures { result ≡ unless (first_no ((if on then not there else there, if on then Present else Absent) ∷ [])) tt }
+{
+    match (there, on) {
+        (true, true) => Err(CallFault::Present),
+        (false, false) => Err(CallFault::Absent),
+        _ => Ok(()),
     }
-    Ok(())
 }
 
 impl<K: Kind> Draft<K> {
     // Adds a state with this value, and answers its number.
     pub fn grow(&mut self, value: u8) -> Result<usize, CallFault>
-        ensures answer { result ≡ unless (refusal K.model (drawn self.old) (Grow value)) (size (drawn self.old)) }
-        ensures left { drawn self.new ≡ after K.model (drawn self.old) (Grow value) }
-        ensures kept { is_err result ≡ true → self.new ≡ self.old }
+        ensures { Made K.model (Grow value) (size (drawn self.old)) self.old self.new result }
     {
         if !K::admits(value) {
             return Err(CallFault::NotAdmitted);
@@ -60,67 +64,57 @@ impl<K: Kind> Draft<K> {
         Ok(count)
     }
 
-    // Adds an arrow.
-    pub fn link(&mut self, from: usize, letter: usize, to: usize) -> Result<(), CallFault>
-        ensures answer { result ≡ unless (refusal K.model (drawn self.old) (Link from letter to)) tt }
-        ensures left { drawn self.new ≡ after K.model (drawn self.old) (Link from letter to) }
-        ensures kept { is_err result ≡ true → self.new ≡ self.old }
+    // Adds an arrow, where `on`, or else removes it.
+    fn change_arrow(&mut self, arrow: Arrow, on: bool) -> Result<(), CallFault>
+        ensures { Made K.model (if on then Link arrow else Unlink arrow) tt self.old self.new result }
     {
-        check_arrow(&self.automaton, from, letter, to)?;
-        if self.automaton.has_arrow(from, letter, to) {
-            return Err(CallFault::Present);
-        }
-        self.automaton.set_arrow(from, letter, to, true);
+        check_arrow(&self.automaton, arrow)?;
+        check_change(self.automaton.has_arrow(arrow), on)?;
+        self.automaton.set_arrow(arrow, on);
         Ok(())
     }
 
-    // Removes an arrow.
-    pub fn unlink(&mut self, from: usize, letter: usize, to: usize) -> Result<(), CallFault>
-        ensures answer { result ≡ unless (refusal K.model (drawn self.old) (Unlink from letter to)) tt }
-        ensures left { drawn self.new ≡ after K.model (drawn self.old) (Unlink from letter to) }
-        ensures kept { is_err result ≡ true → self.new ≡ self.old }
+    // Adds an arrow.
+    pub fn link(&mut self, arrow: Arrow) -> Result<(), CallFault>
+        ensures { Made K.model (Link arrow) tt self.old self.new result }
     {
-        check_arrow(&self.automaton, from, letter, to)?;
-        if !self.automaton.has_arrow(from, letter, to) {
-            return Err(CallFault::Absent);
-        }
-        self.automaton.set_arrow(from, letter, to, false);
+        self.change_arrow(arrow, true)
+    }
+
+    // Removes an arrow.
+    pub fn unlink(&mut self, arrow: Arrow) -> Result<(), CallFault>
+        ensures { Made K.model (Unlink arrow) tt self.old self.new result }
+    {
+        self.change_arrow(arrow, false)
+    }
+
+    // Makes a state an entry state, where `on`, or else ends that.
+    fn change_entry(&mut self, state: usize, on: bool) -> Result<(), CallFault>
+        ensures { Made K.model (if on then Enter state else Leave state) tt self.old self.new result }
+    {
+        check_state(&self.automaton, state)?;
+        check_change(self.automaton.is_entry(state), on)?;
+        self.automaton.set_entry(state, on);
         Ok(())
     }
 
     // Makes a state an entry state.
     pub fn enter(&mut self, state: usize) -> Result<(), CallFault>
-        ensures answer { result ≡ unless (refusal K.model (drawn self.old) (Enter state)) tt }
-        ensures left { drawn self.new ≡ after K.model (drawn self.old) (Enter state) }
-        ensures kept { is_err result ≡ true → self.new ≡ self.old }
+        ensures { Made K.model (Enter state) tt self.old self.new result }
     {
-        check_state(&self.automaton, state)?;
-        if self.automaton.is_entry(state) {
-            return Err(CallFault::Present);
-        }
-        self.automaton.set_entry(state, true);
-        Ok(())
+        self.change_entry(state, true)
     }
 
     // Ends that a state is an entry state.
     pub fn leave(&mut self, state: usize) -> Result<(), CallFault>
-        ensures answer { result ≡ unless (refusal K.model (drawn self.old) (Leave state)) tt }
-        ensures left { drawn self.new ≡ after K.model (drawn self.old) (Leave state) }
-        ensures kept { is_err result ≡ true → self.new ≡ self.old }
+        ensures { Made K.model (Leave state) tt self.old self.new result }
     {
-        check_state(&self.automaton, state)?;
-        if !self.automaton.is_entry(state) {
-            return Err(CallFault::Absent);
-        }
-        self.automaton.set_entry(state, false);
-        Ok(())
+        self.change_entry(state, false)
     }
 
     // Replaces the value of a state.
     pub fn rate(&mut self, state: usize, value: u8) -> Result<(), CallFault>
-        ensures answer { result ≡ unless (refusal K.model (drawn self.old) (Rate state value)) tt }
-        ensures left { drawn self.new ≡ after K.model (drawn self.old) (Rate state value) }
-        ensures kept { is_err result ≡ true → self.new ≡ self.old }
+        ensures { Made K.model (Rate state value) tt self.old self.new result }
     {
         check_state(&self.automaton, state)?;
         if !K::admits(value) {

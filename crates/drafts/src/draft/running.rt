@@ -1,6 +1,6 @@
 ghost use Rattle.std.specs.Prelude.{◌≡◌, true, is_err, IfOk, OnOk};
-ghost use Rattle.drafts.specs.Calls.{outcome, after, outcomes, after_all};
-ghost use Rattle.drafts.specs.Drawn.{drawn};
+ghost use Rattle.drafts.specs.Calls.{answer, outcomes, after_all};
+ghost use Rattle.drafts.specs.Drawn.{drawn, Made};
 
 use crate::calls::{Answer, Call};
 use crate::draft::Draft;
@@ -11,35 +11,15 @@ use std::alloc::{AllocError, Global};
 impl<K: Kind> Draft<K> {
     // Makes one call that is given as data.
     pub fn apply(&mut self, call: Call) -> Result<Answer, CallFault>
-        ensures answer { result ≡ outcome K.model (drawn self.old) call }
-        ensures left { drawn self.new ≡ after K.model (drawn self.old) call }
-        ensures kept { is_err result ≡ true → self.new ≡ self.old }
+        ensures { Made K.model call (answer (drawn self.old) call) self.old self.new result }
     {
         match call {
-            Call::Grow(value) => {
-                let state = self.grow(value)?;
-                Ok(Answer::State(state))
-            }
-            Call::Link { from, letter, to } => {
-                self.link(from, letter, to)?;
-                Ok(Answer::Done)
-            }
-            Call::Unlink { from, letter, to } => {
-                self.unlink(from, letter, to)?;
-                Ok(Answer::Done)
-            }
-            Call::Enter(state) => {
-                self.enter(state)?;
-                Ok(Answer::Done)
-            }
-            Call::Leave(state) => {
-                self.leave(state)?;
-                Ok(Answer::Done)
-            }
-            Call::Rate { state, value } => {
-                self.rate(state, value)?;
-                Ok(Answer::Done)
-            }
+            Call::Grow(value) => self.grow(value).map(Answer::State),
+            Call::Link(arrow) => self.link(arrow).map(|()| Answer::Done),
+            Call::Unlink(arrow) => self.unlink(arrow).map(|()| Answer::Done),
+            Call::Enter(state) => self.enter(state).map(|()| Answer::Done),
+            Call::Leave(state) => self.leave(state).map(|()| Answer::Done),
+            Call::Rate { state, value } => self.rate(state, value).map(|()| Answer::Done),
         }
     }
 

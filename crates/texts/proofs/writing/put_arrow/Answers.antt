@@ -1,6 +1,6 @@
 use Rattle.std.proofs.Common.{ℕ, List, [], ◌∷◌, length, get_or, decimal, sym, ap, ◌∙◌, arith}
-use Rattle.drafts.specs.declared.calls.Call.TheVariants.{Link}
 use Rattle.automata.specs.Shown.{shown}
+use Rattle.drafts.specs.Calls.{link}
 use Rattle.texts.specs.Writing.{ended_line}
 use Rattle.texts.proofs.LinesPut.{puts_as, puts_when, puts_unless}
 use Rattle.texts.proofs.writing.put_arrow.Goals as goal
@@ -8,7 +8,7 @@ use Rattle.texts.proofs.writing.put_arrow.Goals as goal
 pub returns-then-has_arrow : goal.returns-then-has_arrow
 returns-then-has_arrow c =
     let d = shown c.args.automaton.now in
-    puts_when d.signs (d.arrow c.args.from c.args.letter c.args.to) (Link c.args.from c.args.letter c.args.to ∷ [])
+    puts_when d.signs (d.arrow c.args.from c.args.letter c.args.to) (link c.args.from c.args.letter c.args.to ∷ [])
     (sym c.has_arrow.ensures ∙ c.if-has_arrow.true)
     (puts_as (ap (λ (xs : List ℕ). ended_line ((76 ∷ []) ∷ decimal c.args.from ∷ (get_or xs c.args.letter 0 ∷ []) ∷ decimal c.args.to ∷ [])) c.signs.ensures)
     c.put_arrow_line.ensures)
@@ -17,7 +17,7 @@ pub returns-else-has_arrow : goal.returns-else-has_arrow
 returns-else-has_arrow c =
     let d = shown c.args.automaton.now in
     puts_unless d.signs c.args.out.now (d.arrow c.args.from c.args.letter c.args.to)
-    (Link c.args.from c.args.letter c.args.to ∷ [])
+    (link c.args.from c.args.letter c.args.to ∷ [])
     (sym c.has_arrow.ensures ∙ c.if-has_arrow.false)
 
 pub bounds-signs-letter : goal.bounds-signs-letter

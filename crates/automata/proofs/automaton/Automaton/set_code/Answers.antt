@@ -1,28 +1,11 @@
-use Rattle.std.proofs.Common.{◌∙◌, arith, length-set}
-use Rattle.automata.proofs.ShownLaws.{changed-code, same_code, set-bytes, set-blank}
+use Rattle.std.proofs.Common.{◌<◌, length, refl, ap, arith}
+use Rattle.std.proofs.lemmas.List.{get_or_default}
+use Rattle.automata.specs.declared.row.Row.{Row}
+use Rattle.automata.proofs.ShownLaws.{changed-code}
 use Rattle.automata.proofs.automaton.Automaton.set_code.Goals as goal
 
-pub invariant_of-self : goal.invariant_of-self
-invariant_of-self c =
-    let d = c.args.self.now in
-    let p = c.args.state in
-    let code = c.args.code in
-    record {
-      few = d.few;
-      wide = length-set d.codes p code ∙ d.wide;
-      bytes = set-bytes d.codes p code (omega (arith, c.ranges.code)) d.bytes;
-      rows = d.rows;
-      columns = d.columns;
-      bits = d.bits;
-      blank = set-blank d.codes p code d.count c.if-state-self.true d.blank;
-      entered = d.entered;
-      from = d.from;
-      by = d.by;
-      to = d.to;
-    }
-
 pub returns-then-state-self : goal.returns-then-state-self
-returns-then-state-self c = changed-code c.args.self.now c.args.state c.args.code c.if-state-self.true
-
-pub returns-else-state-self : goal.returns-else-state-self
-returns-else-state-self c = same_code c.args.self.now c.args.state c.args.code c.if-state-self.false
+returns-then-state-self c =
+    let inside : c.args.state < length c.args.self.now.rows = omega (arith, c.args.self.now.wide, c.args.self.now.few, c.if-state-self.true) in
+    changed-code c.args.self.now c.args.state _ c.if-state-self.true c.args.code refl (ap (λ (r : Row). r.ends) (get_or_default _ _ _ _ inside))
+    _ refl refl refl (λ k b q. refl)
