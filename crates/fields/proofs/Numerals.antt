@@ -1,5 +1,5 @@
 -- A field reads as a number just where it is the number's decimal digits.
-use Rattle.std.proofs.Common.{◌≡◌, ℕ, ◌^◌, ◌<◌, ◌≤◌, true, false, cond, eqb, ltb, ◌⊎◌, ◌↔◌, List, length, get_or, Ok, Err, decimal, Result, sym, ap, ◌∙◌, inl, ⊎_elim, arith}
+use Rattle.std.proofs.Common.{◌≡◌, ℕ, ◌^◌, ◌<◌, ◌≤◌, true, false, eqb, ltb, ◌⊎◌, ◌↔◌, List, length, get_or, Ok, Err, decimal, Result, sym, ap, ◌∙◌, inl, ⊎_elim, arith}
 use Rattle.std.specs.Str.Parse.{digits_value}
 use Rattle.std.specs.Str.{all_ascii_digits}
 use Rattle.std.proofs.lemmas.Bool.{eqb-false, ne_eqb, ltb-true, lt-ltb, le-ltb, and_left, and_right, and_cases, ltb-false, cases_eq, cond-true, cond-false, cond_both}

@@ -28,7 +28,3 @@ puts_then {a} {b} {c} {s} {t} p q = record {
         ∙ (ap (λ (d : List ℕ). paste d (a.len + length s) t (length t)) one
         ∙ (paste-paste a.out.now a.len s t (length s) (length t) refl refl (omega arith)
         ∙ ap (λ (k : ℕ). paste a.out.now a.len (s ++ t) k) (sym (length-append s t)))))
-
--- a place within the slice is the true place: the text had room
-pub puts_within : {a c : Writer} {t : List ℕ} → Puts a c t → c.len ≤ length a.out.now → c.len ≡ a.len + length t
-puts_within {a} p h = omega (arith, p.place, a.short)

@@ -161,14 +161,8 @@ module _ (signs : List ℕ) where
       link-rest : call_of_line signs (76 ∷ 9 ∷ rest) ≡ link_as (Ok p) (listed signs g) (number_of h)
       link-rest = link-line ∙ ap (λ (r : Result ℕ NumberFault). link_as r (listed signs g) (number_of h)) from
 
-      pub link_sign : listed signs g ≡ false → call_of_line signs (76 ∷ 9 ∷ rest) ≡ Err (line.Field 3 NotListed)
-      link_sign e = link-rest ∙ ap (λ (b : Bool). link_as (Ok p) b (number_of h)) e
-
       link-last : listed signs g ≡ true → call_of_line signs (76 ∷ 9 ∷ rest) ≡ link_as (Ok p) true (number_of h)
       link-last e = link-rest ∙ ap (λ (b : Bool). link_as (Ok p) b (number_of h)) e
-
-      pub link_to : (x : NumberFault) → listed signs g ≡ true → number_of h ≡ Err x → call_of_line signs (76 ∷ 9 ∷ rest) ≡ Err (line.Field 4 (Number x))
-      link_to x e n = link-last e ∙ ap (link_as (Ok p) true) n
 
       pub link_ok : (q : ℕ) → listed signs g ≡ true → number_of h ≡ Ok q → call_of_line signs (76 ∷ 9 ∷ rest) ≡ Ok (link p (letter_in signs g) q)
       link_ok q e n =

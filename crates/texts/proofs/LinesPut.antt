@@ -46,18 +46,13 @@ module _ (signs : List ℕ) where
       ap (ended 10) (map-append (λ c. line_of (call_fields signs c)) xs ys)
       ∙ ended-append 10 (map (λ c. line_of (call_fields signs c)) xs) (map (λ c. line_of (call_fields signs c)) ys)
 
-  pub lines_more : (i : ℕ) (f : ℕ → List Call) → call_lines signs (each_below (i + 1) f) ≡ call_lines signs (each_below i f) ++ call_lines signs (f i)
-  lines_more i f = ap (call_lines signs) (each_more i f) ∙ lines-append (each_below i f) (f i)
+  pub lines_each : (n : ℕ) (f : ℕ → List Call) → call_lines signs (each_below n f) ≡ each_below n (λ i. call_lines signs (f i))
+  lines_each zero f = refl
+  lines_each (suc n) f = lines-append (each_below n f) (f n) ∙ ap (λ (t : List ℕ). t ++ call_lines signs (f n)) (lines_each n f)
 
-  -- for loops: the lines at one more place
-  pub puts_more : {a b c : Writer} (i : ℕ) (f : ℕ → List Call) → Puts a b (call_lines signs (each_below i f))
-      → Puts b c (call_lines signs (f i)) → Puts a c (call_lines signs (each_below (i + 1) f))
-  puts_more i f p q = puts_as (sym (lines_more i f)) (puts_then p q)
-
-  -- after the last place
-  pub puts_all : {a b : Writer} (i n : ℕ) (f : ℕ → List Call) → i ≡ n → Puts a b (call_lines signs (each_below i f))
-      → Puts a b (call_lines signs (each_below n f))
-  puts_all i n f q p = puts_as (ap (λ (k : ℕ). call_lines signs (each_below k f)) q) p
+  -- the lines of each number put in order are the lines of all of them
+  pub puts_each : {a b : Writer} {k : ℕ} (n : ℕ) (f : ℕ → List Call) → k ≡ n → Puts a b (each_below k (λ i. call_lines signs (f i))) → Puts a b (call_lines signs (each_below n f))
+  puts_each n f e p = puts_as (ap (λ (k : ℕ). each_below k (λ i. call_lines signs (f i))) e ∙ sym (lines_each n f)) p
 
   -- calls under a test
   pub puts_when : {a b : Writer} (t : Bool) (cs : List Call) → t ≡ true → Puts a b (call_lines signs cs)

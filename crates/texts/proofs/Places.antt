@@ -1,10 +1,13 @@
 -- Where a sign stands in a list of signs.
-use Rattle.std.proofs.Common.{◌≡◌, ℕ, zero, suc, ◌<◌, ◌≤◌, eqb, ◌⊎◌, List, [], ◌∷◌, length, get_or, None, refl, inl, inr, arith}
-use Rattle.std.proofs.lemmas.Bool.{eqb-true, eqb-false, cond_both, cases_order, cases_lt}
+use Rattle.std.proofs.Common.{◌≡◌, ℕ, zero, suc, ◌<◌, ◌≤◌, true, false, cond, eqb, ltb, ◌⊎◌, List, [], ◌∷◌, length, get_or, Some, None, Option, refl, ap, inl, inr, arith}
+use Rattle.std.proofs.lemmas.Bool.{eqb-true, eqb-false, eq-eqb, ltb-true, ltb-false, lt-ltb, le-ltb, and_from, and_right, cond_both, cases_order}
+use Rattle.std.specs.List.{position, position_or_len}
+use Rattle.std.specs.Option.{MatchOption}
+use Rattle.std.proofs.lemmas.List.Recursion.{is_position_or_len}
 use Rattle.fields.specs.Pieces.{Free}
 use Rattle.automata.specs.Signs.{sign_fault}
 use Rattle.automata.proofs.SignLaws.{accepted-parts, visible_from, apart_from}
-use Rattle.texts.specs.Reading.{place_of}
+use Rattle.texts.specs.Reading.{place_of, letter_in, listed}
 
 pub place-most : (b : ℕ) (signs : List ℕ) → place_of b signs ≤ length signs
 place-most b [] = omega arith
@@ -26,14 +29,6 @@ place-holds b (x ∷ xs) h =
     cond_both (eqb x b) 0 (suc (place_of b xs)) (λ p. p < suc (length xs) → get_or (x ∷ xs) p 0 ≡ b)
     (λ e _. eqb-true x b e) (λ _ l. place-holds b xs (omega arith)) h
 
--- b stands nowhere
-pub place_none : (b : ℕ) (signs : List ℕ) → Free b signs → place_of b signs ≡ length signs
-place_none b signs f = go (cases_lt (place_of b signs) (length signs))
-  where
-    go : (place_of b signs < length signs) ⊎ (length signs ≤ place_of b signs) → place_of b signs ≡ length signs
-    go (inl l) = absurd (f (place_of b signs) l (place-holds b signs l))
-    go (inr l) = omega (arith, place-most b signs)
-
 -- the first place that holds b is its place
 pub place_is : (b : ℕ) (signs : List ℕ) (a : ℕ) → a < length signs → get_or signs a 0 ≡ b
     → ((k : ℕ) → k < a → get_or signs k 0 ≡ b → ⊥) → place_of b signs ≡ a
@@ -43,6 +38,21 @@ place_is b signs a h e before = go (cases_order (place_of b signs) a)
     go (inl q) = q
     go (inr (inl l)) = absurd (before (place_of b signs) l (place-holds b signs (omega arith)))
     go (inr (inr l)) = absurd (place-first b signs a l e)
+
+-- what the position of b in the list says of its place
+pub place_told : (b : ℕ) (signs : List ℕ) (r : Option ℕ) → r ≡ position (λ s. eqb s b) signs
+    → MatchOption r (place_of b signs ≡ length signs) (λ i. (place_of b signs ≡ i) × (i < length signs))
+place_told b signs r e =
+    let same : place_of b signs ≡ position_or_len (λ s. eqb s b) signs = is_position_or_len (place_of b) (λ s. eqb s b) refl (λ x xs. ap (λ (n : ℕ). cond (eqb x b) 0 n) (omega arith)) signs in
+    rw e (cond_both (ltb (position_or_len (λ s. eqb s b) signs) (length signs)) _ _ (λ r. MatchOption r (place_of b signs ≡ length signs) (λ i. (place_of b signs ≡ i) × (i < length signs)))
+    (λ t. (same, ltb-true _ _ t)) (λ f. omega (arith, same, place-most b signs, ltb-false _ _ f)))
+
+-- and what it says of the letter that a field of one byte names
+pub letter_told : (signs f : List ℕ) (r : Option ℕ) → length f ≡ 1 → MatchOption r (letter_in signs f ≡ length signs) (λ i. (letter_in signs f ≡ i) × (i < length signs))
+    → MatchOption r (listed signs f ≡ false) (λ i. (listed signs f ≡ true) × (letter_in signs f ≡ i))
+letter_told signs f None one h = and_right (eqb (length f) 1) (ltb (letter_in signs f) (length signs)) (le-ltb (letter_in signs f) (length signs) (omega arith))
+letter_told signs f (Some i) one h =
+    (and_from (eqb (length f) 1) (ltb (letter_in signs f) (length signs)) (eq-eqb (length f) 1 one) (lt-ltb (letter_in signs f) (length signs) (omega arith)), h.0)
 
 -- ---- acceptable signs
 

@@ -1,5 +1,5 @@
 -- The numbers by which refusals of a text are known.
-use Rattle.std.specs.Prelude.{ℕ, Ok, Err, Result}
+use Rattle.std.specs.Prelude.{ℕ}
 use Rattle.fields.specs.Numbers.{fault_number}
 use Rattle.automata.specs.Signs.{sign_fault_number}
 use Rattle.drafts.specs.Calls.{call_fault_number}
@@ -31,8 +31,3 @@ abbrev pub refusal_of : TextFault → Refusal
 refusal_of TooLong = told 20 0 0 0
 refusal_of NoEnd = told 21 0 0 0
 refusal_of (Line n f) = told_of_line n f
-
--- a fault with its place
-abbrev pub placed : {T P E : Type 0} → P → Result T E → Result T (P × E)
-placed p (Ok x) = Ok x
-placed p (Err e) = Err (p, e)

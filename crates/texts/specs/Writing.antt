@@ -1,6 +1,9 @@
 -- What is written of a draft and of a refusal.
-use Rattle.std.specs.Prelude.{ℕ, cond, List, [], ◌∷◌, ◌++◌, map, decimal, slice_index}
+use Rattle.std.specs.Prelude.{ℕ, ◌<◌, cond, List, [], ◌∷◌, ◌++◌, map, decimal, slice_index}
+use Rattle.std.specs.Borrow.{MutBor}
+use Rattle.fields.specs.declared.writing.Writer.{Writer}
 use Rattle.fields.specs.Pieces.{ended}
+use Rattle.fields.specs.Writing.{Puts}
 use Rattle.drafts.specs.declared.calls.Call.{Call}
 use Rattle.drafts.specs.declared.calls.Call.TheVariants.{Grow, Enter}
 use Rattle.automata.specs.Drafts.{DraftModel, size, letters}
@@ -37,3 +40,7 @@ links_from d p = each_below (letters d) (links_by d p)
 -- The line of a refusal: X, its number, the line, the field and the inner number.
 abbrev pub refusal_line : Refusal → List ℕ
 refusal_line r = ended_line ((88 ∷ []) ∷ decimal r.number ∷ decimal r.line ∷ decimal r.field ∷ decimal r.inner ∷ [])
+
+-- where a call goes from w to w' at the number i, it puts the text of i
+abbrev pub PutsAt : ℕ → (ℕ → MutBor Writer → MutBor Writer → Type 0) → (ℕ → List ℕ) → Type 0
+PutsAt count calls text = (i : ℕ) (w w' : MutBor Writer) → i < count → calls i w w' → Puts w.now w'.now (text i)

@@ -29,6 +29,7 @@ macro_rules! for_any_kind {
 }
 
 impl AnyDraft {
+    // One arm for each kind: a trait of the kinds that have a letter would need as many impls.
     pub fn letter(&self) -> KindLetter
         ensures { result ≡ letter_of_draft self.now }
     {

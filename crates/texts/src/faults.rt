@@ -4,7 +4,7 @@ ghost use Rattle.std.specs.Prelude.{◌≡◌};
 ghost use Rattle.texts.specs.declared.faults.FieldFault.{FieldFault};
 ghost use Rattle.texts.specs.declared.faults.LineFault.{LineFault};
 ghost use Rattle.texts.specs.declared.faults.TextFault.{TextFault};
-ghost use Rattle.texts.specs.Faults.{inner_of, told, told_of_line, refusal_of, placed};
+ghost use Rattle.texts.specs.Faults.{inner_of, told, told_of_line, refusal_of};
 
 use automata::faults::SignFault;
 use drafts::faults::CallFault;
@@ -69,15 +69,21 @@ pub enum LineFault {
     Call(CallFault),
 }
 
+// A fault of a field, with the field's number.
+impl From<(u8, FieldFault)> for LineFault {
+    ghost from_gives = { λ x y. y ≡ LineFault.Field x.0 x.1 };
+
+    fn from((field, fault): (u8, FieldFault)) -> LineFault {
+        LineFault::Field { field, fault }
+    }
+}
+
 // A fault of the number in a field, with the field's number.
 impl From<(u8, NumberFault)> for LineFault {
     ghost from_gives = { λ x y. y ≡ LineFault.Field x.0 (FieldFault.Number x.1) };
 
-    fn from(value: (u8, NumberFault)) -> LineFault {
-        LineFault::Field {
-            field: value.0,
-            fault: FieldFault::Number(value.1),
-        }
+    fn from((field, fault): (u8, NumberFault)) -> LineFault {
+        LineFault::from((field, FieldFault::Number(fault)))
     }
 }
 
@@ -112,10 +118,55 @@ pub enum TextFault {
 impl From<(usize, LineFault)> for TextFault {
     ghost from_gives = { λ x y. y ≡ TextFault.Line x.0 x.1 };
 
-    fn from(value: (usize, LineFault)) -> TextFault {
-        TextFault::Line {
-            line: value.0,
-            fault: value.1,
+    fn from((line, fault): (usize, LineFault)) -> TextFault {
+        TextFault::Line { line, fault }
+    }
+}
+
+// A fault of a line as it is told, with the line's number.
+impl From<(usize, LineFault)> for Refusal {
+    ghost from_gives = { λ x y. y ≡ told_of_line x.0 x.1 };
+
+    fn from((line, fault): (usize, LineFault)) -> Refusal {
+        match fault {
+            LineFault::Record => Refusal {
+                line,
+                field: 1,
+                ..Refusal::plain(22)
+            },
+            LineFault::FieldCount => Refusal {
+                line,
+                ..Refusal::plain(23)
+            },
+            LineFault::Field { field, fault } => Refusal {
+                line,
+                field,
+                inner: fault.number(),
+                ..Refusal::plain(24)
+            },
+            LineFault::Open(fault) => Refusal {
+                line,
+                inner: fault.number(),
+                ..Refusal::plain(25)
+            },
+            LineFault::Call(fault) => Refusal {
+                line,
+                inner: fault.number(),
+                ..Refusal::plain(25)
+            },
+        }
+    }
+}
+
+// A fault of a text as it is told.
+impl From<TextFault> for Refusal {
+    ghost from_gives = { λ x y. y ≡ refusal_of x };
+
+    fn from(value: TextFault) -> Refusal {
+        match value {
+            TextFault::TooLong => Refusal::plain(20),
+            TextFault::NoEnd => Refusal::plain(21),
+            TextFault::Line { line, fault } => Refusal::from((line, fault)),
         }
     }
 }
@@ -124,58 +175,6 @@ impl TextFault {
     pub fn refusal(self) -> Refusal
         ensures { result ≡ refusal_of self }
     {
-        match self {
-            TextFault::TooLong => Refusal::plain(20),
-            TextFault::NoEnd => Refusal::plain(21),
-            TextFault::Line { line, fault } => refusal_in(line, fault),
-        }
-    }
-}
-
-// The refusal of a line.
-fn refusal_in(line: usize, fault: LineFault) -> Refusal
-    ensures { result ≡ told_of_line line fault }
-{
-    match fault {
-        LineFault::Record => Refusal {
-            number: 22,
-            line,
-            field: 1,
-            inner: 0,
-        },
-        LineFault::FieldCount => Refusal {
-            number: 23,
-            line,
-            field: 0,
-            inner: 0,
-        },
-        LineFault::Field { field, fault } => Refusal {
-            number: 24,
-            line,
-            field,
-            inner: fault.number(),
-        },
-        LineFault::Open(fault) => Refusal {
-            number: 25,
-            line,
-            field: 0,
-            inner: fault.number(),
-        },
-        LineFault::Call(fault) => Refusal {
-            number: 25,
-            line,
-            field: 0,
-            inner: fault.number(),
-        },
-    }
-}
-
-// Gives a fault its place.
-pub fn at<T, P: Drop, E>(place: P, res: Result<T, E>) -> Result<T, (P, E)>
-    ensures { result ≡ placed place res }
-{
-    match res {
-        Ok(value) => Ok(value),
-        Err(fault) => Err((place, fault)),
+        Refusal::from(self)
     }
 }

@@ -6,7 +6,7 @@ ghost use Rattle.texts.specs.Gives.{LineRead, LinesRead, RestRead, DraftRead};
 ghost use Rattle.texts.specs.Reading.{line_ended};
 
 use crate::any::AnyDraft;
-use crate::faults::{LineFault, TextFault, at};
+use crate::faults::{LineFault, TextFault};
 use crate::letters::KindLetter;
 use crate::records::{read_call, read_head};
 use automata::signs::Signs;
@@ -45,10 +45,11 @@ fn read_lines<K: Kind>(mut draft: Draft<K>, text: &[u8]) -> Result<Draft<K>, Tex
     ensures { LinesRead K.model (drawn draft) text.now result }
 {
     let mut rest = text;
+    // counted by hand: a `for` over the numbers would leave where the text ends by a branch of its own
     let mut number = 1;
     while let Some((line, more)) = cut(rest, b'\n') {
         number += 1;
-        at(number, read_line(&mut draft, line))?;
+        read_line(&mut draft, line).map_err(|fault| (number, fault))?;
         rest = more;
     }
     Ok(draft)
@@ -60,18 +61,9 @@ fn read_rest(kind: KindLetter, signs: Signs, rest: &[u8]) -> Result<AnyDraft, Te
     ensures { RestRead kind (sign_bytes signs) rest.now result }
 {
     match kind {
-        KindLetter::Y => {
-            let draft = read_lines(Draft::<Y>::fresh(signs), rest)?;
-            Ok(AnyDraft::OfY(draft))
-        }
-        KindLetter::R => {
-            let draft = read_lines(Draft::<R>::fresh(signs), rest)?;
-            Ok(AnyDraft::OfR(draft))
-        }
-        KindLetter::M => {
-            let draft = read_lines(Draft::<M>::fresh(signs), rest)?;
-            Ok(AnyDraft::OfM(draft))
-        }
+        KindLetter::Y => read_lines(Draft::<Y>::fresh(signs), rest).map(AnyDraft::OfY),
+        KindLetter::R => read_lines(Draft::<R>::fresh(signs), rest).map(AnyDraft::OfR),
+        KindLetter::M => read_lines(Draft::<M>::fresh(signs), rest).map(AnyDraft::OfM),
     }
 }
 
@@ -88,6 +80,6 @@ pub fn read_draft(text: &[u8]) -> Result<AnyDraft, TextFault>
     let Some((line, rest)) = cut(text, b'\n') else {
         return Err(TextFault::NoEnd);
     };
-    let (kind, signs) = at(1usize, read_head(line))?;
+    let (kind, signs) = read_head(line).map_err(|fault| (1usize, fault))?;
     read_rest(kind, signs, rest)
 }

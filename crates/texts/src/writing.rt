@@ -1,13 +1,13 @@
-ghost use Rattle.std.specs.Prelude.{◌≡◌, ◌<◌, ◌≤◌, [], ◌∷◌, length, decimal};
+ghost use Rattle.std.specs.Prelude.{◌≡◌, ℕ, ◌<◌, List, [], ◌∷◌, length, decimal};
 ghost use Rattle.fields.specs.Writing.{Puts};
 ghost use Rattle.fields.specs.Written.{Wrote};
 ghost use Rattle.automata.specs.Drafts.{size, letters};
-ghost use Rattle.drafts.specs.Canonical.{grow_calls, enter_calls, link_calls};
+ghost use Rattle.drafts.specs.Canonical.{each_below, grow_calls, enter_calls, link_calls};
 ghost use Rattle.automata.specs.Shown.{shown};
 ghost use Rattle.texts.specs.Any.{letter_of_draft, model_of};
 ghost use Rattle.texts.specs.Grammar.{head_fields, written};
 ghost use Rattle.texts.specs.TextLaws.{ReadsBack};
-ghost use Rattle.texts.specs.Writing.{ended_line, call_lines, grow_call, enter_call, link_call, links_by, links_from, refusal_line};
+ghost use Rattle.texts.specs.Writing.{PutsAt, ended_line, call_lines, grow_call, enter_call, link_call, links_by, links_from, refusal_line};
 
 use crate::any::AnyDraft;
 use crate::faults::Refusal;
@@ -57,13 +57,23 @@ fn put_state(automaton: &Automaton, state: usize, out: &mut Writer<'_>)
     }
 }
 
+// Puts what `put` puts at each number below `count`, in order.
+fn put_each<F: Fn(usize, &mut Writer<'_>)>(count: usize, out: &mut Writer<'_>, put: F)
+    requires { (i : ℕ) (w : _) → i < count → F.pre put i w }
+    ensures { (text : ℕ → List ℕ) → PutsAt count (λ i w w'. F.post put i w tt w') text → Puts out.old out.new (each_below count text) }
+{
+    for i in 0..count {
+        put(i, out);
+    }
+}
+
 // Puts the lines of the states, by number.
 fn put_states(automaton: &Automaton, out: &mut Writer<'_>)
     ensures { Puts out.old out.new (call_lines (shown automaton.now).signs (grow_calls (shown automaton.now))) }
 {
-    for state in 0..automaton.state_count() {
-        put_state(automaton, state, out);
-    }
+    put_each(automaton.state_count(), out, |state, out| {
+        put_state(automaton, state, out)
+    });
 }
 
 // Puts the line of an entry state, or nothing where the state is none.
@@ -79,9 +89,9 @@ fn put_entry(automaton: &Automaton, state: usize, out: &mut Writer<'_>)
 fn put_entries(automaton: &Automaton, out: &mut Writer<'_>)
     ensures { Puts out.old out.new (call_lines (shown automaton.now).signs (enter_calls (shown automaton.now))) }
 {
-    for state in 0..automaton.state_count() {
-        put_entry(automaton, state, out);
-    }
+    put_each(automaton.state_count(), out, |state, out| {
+        put_entry(automaton, state, out)
+    });
 }
 
 // Puts the line of an arrow, or nothing where there is none.
@@ -99,27 +109,27 @@ fn put_ends(automaton: &Automaton, from: usize, letter: usize, out: &mut Writer<
     requires { letter < letters (shown automaton.now) }
     ensures { Puts out.old out.new (call_lines (shown automaton.now).signs (links_by (shown automaton.now) from letter)) }
 {
-    for to in 0..automaton.state_count() {
-        put_arrow(automaton, from, letter, to, out);
-    }
+    put_each(automaton.state_count(), out, |to, out| {
+        put_arrow(automaton, from, letter, to, out)
+    });
 }
 
 // Puts the lines of the arrows from a state, by letter.
 fn put_arrows_from(automaton: &Automaton, from: usize, out: &mut Writer<'_>)
     ensures { Puts out.old out.new (call_lines (shown automaton.now).signs (links_from (shown automaton.now) from)) }
 {
-    for letter in 0..automaton.signs().len() {
-        put_ends(automaton, from, letter, out);
-    }
+    put_each(automaton.signs().len(), out, |letter, out| {
+        put_ends(automaton, from, letter, out)
+    });
 }
 
 // Puts the lines of the arrows, by from-state.
 fn put_arrows(automaton: &Automaton, out: &mut Writer<'_>)
     ensures { Puts out.old out.new (call_lines (shown automaton.now).signs (link_calls (shown automaton.now))) }
 {
-    for from in 0..automaton.state_count() {
-        put_arrows_from(automaton, from, out);
-    }
+    put_each(automaton.state_count(), out, |from, out| {
+        put_arrows_from(automaton, from, out)
+    });
 }
 
 impl Written for AnyDraft {

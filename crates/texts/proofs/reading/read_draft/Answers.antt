@@ -1,4 +1,4 @@
-use Rattle.std.proofs.Common.{◌≡◌, ℕ, ◌≤◌, true, List, ◌∷◌, length, Ok, Err, Result, sym, ap, ◌∙◌, subst, inr}
+use Rattle.std.proofs.Common.{◌≡◌, ℕ, ◌≤◌, true, List, ◌∷◌, length, Ok, Err, Result, sym, ap, ◌∙◌, subst, inr, rules}
 use Rattle.std.proofs.lemmas.Result.{err_from_is_err_and}
 use Rattle.automata.specs.declared.signs.Signs.{Signs}
 use Rattle.automata.specs.Drafts.{fresh}
@@ -41,7 +41,7 @@ returns-in_err-kind c =
     let ls = lines_in c.in-Some.rest.now in
     let x = c.in_err-kind.field-0.0 in
     let ended : line_ended c.args.text.now ≡ true = sym c.if-not-is_ended.ensures in
-    let q = placed-fault 1 c.read_head.result x c.in_err-kind.ensures in
+    let q = placed-fault 1 c.read_head.result x c.in_err-kind.ensures.cases (λ e k. search rules) in
     let f = left_cut c.in-Some.ensures.cuts (inr ended) in
     rw (p.1, p.2) (opened text l ls c.if-text-gt-LIMIT.false ended f.lines
     ∙ (all_head-fault l ls x.1 (faulty l c.read_head.result x.1 q.1 c.read_head.ensures) ∙ ap (λ (n : ℕ). Err (Line n c.in_err-kind.field-0.0.1)) (sym q.0)))
@@ -58,7 +58,7 @@ returns c =
     let signs = c.in_ok-kind.signs in
     let ended : line_ended c.args.text.now ≡ true = sym c.if-not-is_ended.ensures in
     let f = left_cut c.in-Some.ensures.cuts (inr ended) in
-    let q = placed-value 1 c.read_head.result (k, signs) c.in_ok-kind.ensures in
+    let q = placed-value _ c.read_head.result (k, signs) c.in_ok-kind.ensures.cases (λ e k. k) in
     given text c.in-Some.rest.now k (sign_bytes signs) c.read_rest.result
     (opened text l ls c.if-text-gt-LIMIT.false ended f.lines ∙ all_head l ls k (sign_bytes signs) (named l c.read_head.result k signs q c.read_head.ensures))
     c.read_rest.ensures

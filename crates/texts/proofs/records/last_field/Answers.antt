@@ -1,7 +1,7 @@
 use Rattle.std.proofs.Common.{refl}
 use Rattle.fields.proofs.Separated.{pieces-one}
 use Rattle.texts.proofs.Counts.{not-one}
-use Rattle.texts.proofs.records.one_field.Goals as goal
+use Rattle.texts.proofs.records.last_field.Goals as goal
 
 pub returns-in-None : goal.returns-in-None
 returns-in-None c = pieces-one 9 c.args.rest.now c.in-None.ensures.cuts
