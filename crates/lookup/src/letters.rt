@@ -7,11 +7,5 @@ use automata::signs::Signs;
 pub fn letter_of(signs: &Signs, byte: u8) -> Option<usize>
     ensures { LetterOf (sign_bytes signs.now) byte result }
 {
-    let bytes = signs.as_slice();
-    for letter in 0..bytes.len() {
-        if bytes[letter] == byte {
-            return Some(letter);
-        }
-    }
-    None
+    signs.letter(byte)
 }

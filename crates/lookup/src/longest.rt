@@ -1,7 +1,4 @@
 ghost use Rattle.std.specs.Prelude.{◌≡◌};
-ghost use Rattle.kinds.specs.Kinds.{clean};
-ghost use Rattle.tables.specs.Shown.{shown};
-ghost use Rattle.views.specs.TableViews.{value_of_state};
 ghost use Rattle.lookup.specs.Lookups.{kept, Best, Longest};
 
 use crate::faults::LongestFault;
@@ -12,21 +9,11 @@ use tables::grid::Grid;
 use tables::table::Table;
 use views::table_machine::next_state;
 
-// The front part that ends here where its state has a value other than none, else the one before.
-fn keep<K: Kind>(
-    best: Option<(usize, u8)>,
-    end: usize,
-    grid: &Grid,
-    state: usize,
-) -> Option<(usize, u8)>
-    ensures { result ≡ kept K.model.none best end (clean K.model (value_of_state K.model (shown grid.now) state)) }
+// The front part that ends here where its value is other than none, else the one before.
+fn keep<K: Kind>(best: Option<(usize, u8)>, end: usize, value: u8) -> Option<(usize, u8)>
+    ensures { result ≡ kept K.model.none best end value }
 {
-    let value = state_value::<K>(grid, state);
-    if value == K::none() {
-        best
-    } else {
-        Some((end, value))
-    }
+    (value != K::none()).then_some((end, value)).or(best)
 }
 
 // The end and the value of the longest front part that has a value other than none.
@@ -35,15 +22,13 @@ fn best_end<K: Kind>(grid: &Grid, text: &[u8]) -> Option<(usize, u8)>
 {
     let signs = grid.signs();
     let mut state = 0;
-    let mut best = keep::<K>(None, 0, grid, state);
-    for place in 0..text.len() {
-        match letter_of(&signs, text[place]) {
-            Some(letter) => {
-                state = next_state(grid, state, letter);
-                best = keep::<K>(best, place + 1, grid, state);
-            }
-            None => return best,
-        }
+    let mut best = keep::<K>(None, 0, state_value::<K>(grid, state));
+    for (place, byte) in text.iter().enumerate() {
+        let Some(letter) = letter_of(&signs, *byte) else {
+            return best;
+        };
+        state = next_state(grid, state, letter);
+        best = keep::<K>(best, place + 1, state_value::<K>(grid, state));
     }
     best
 }
@@ -56,8 +41,6 @@ pub fn longest<'t, K: Kind>(
 ) -> Result<(&'t [u8], u8), LongestFault>
     ensures { Longest K.model table.now.grid text.entry result }
 {
-    match best_end::<K>(table.grid(), text) {
-        Some((end, value)) => Ok((&text[0..end], value)),
-        None => Err(LongestFault::NoPart),
-    }
+    let (end, value) = best_end::<K>(table.grid(), text).ok_or(LongestFault::NoPart)?;
+    Ok((&text[..end], value))
 }

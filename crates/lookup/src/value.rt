@@ -25,11 +25,9 @@ pub fn value<K: Kind>(table: &Table<K>, text: &[u8]) -> Result<u8, ValueFault>
     let grid = table.grid();
     let signs = grid.signs();
     let mut state = 0;
-    for place in 0..text.len() {
-        match letter_of(&signs, text[place]) {
-            Some(letter) => state = next_state(grid, state, letter),
-            None => return Err(ValueFault::NoSign { place }),
-        }
+    for (place, byte) in text.iter().enumerate() {
+        let letter = letter_of(&signs, *byte).ok_or(ValueFault::NoSign { place })?;
+        state = next_state(grid, state, letter);
     }
     Ok(state_value::<K>(grid, state))
 }

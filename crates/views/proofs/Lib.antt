@@ -1,6 +1,7 @@
-pub mod Absent
 pub mod ThoseLaws
+pub mod Reaches
 pub mod ColouredLaws
-pub mod Loops
+pub mod Folded
+pub mod Chains
 pub mod TableReversal
 pub mod DraftReversal

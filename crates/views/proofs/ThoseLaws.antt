@@ -1,9 +1,9 @@
--- The members of a set that is made by a test, and such a set made member by member.
-use Rattle.std.proofs.Common.{◌≡◌, ℕ, zero, suc, ◌+◌, ◌*◌, ◌/◌, ◌%◌, ◌^◌, ◌<◌, ◌≤◌, Bool, true, false, cond, ◌&&◌, eqb, ltb, sym, refl, ap, ◌∙◌, inl, inr, div-one, arith, shr-shr}
+-- The members of a set that is made by a test, and of two sets together.
+use Rattle.std.proofs.Common.{◌≡◌, ℕ, zero, suc, ◌+◌, ◌*◌, ◌/◌, ◌%◌, ◌^◌, ◌<◌, ◌≤◌, Bool, true, false, cond, ◌&&◌, ◌||◌, eqb, ltb, sym, refl, ap, ◌∙◌, inl, inr, div-one, arith, shr-shr}
 use lib.Dec.{leb-suc-suc}
-use Rattle.std.proofs.lemmas.Bool.{cases_lt, cases_eq, lt-ltb, le-ltb, eq-eqb, ne_eqb, and_left, and_from}
+use Rattle.std.proofs.lemmas.Bool.{cases_lt, cases_eq, lt-ltb, le-ltb, eq-eqb, ne_eqb, and_left, and_right, and_from, or_from}
 use Rattle.automata.specs.declared.sets.StateSet.{StateSet}
-use Rattle.automata.specs.Sets.{bit, has, no_states}
+use Rattle.automata.specs.Sets.{bit, has}
 use Rattle.automata.proofs.SetLaws.{has-none, has-past, same_members}
 use Rattle.views.specs.Those.{bits_of, those}
 
@@ -42,33 +42,24 @@ module _ (n : ℕ) (f : ℕ → Bool) where
         | inr g ↦ has-past s q g ∙ sym (has-past (those n f) q g)
       ])
 
-pub those-none : (f : ℕ → Bool) → no_states ≡ those 0 f
-those-none f = those_is 0 f no_states (λ q l. has-none q ∙ sym (and_left (ltb q 0) (f q) (le-ltb q 0 (omega arith))))
-
--- one number more
-pub those-more : (n : ℕ) (f : ℕ → Bool) (r : StateSet) → (n < 32 → (q : ℕ) → has r q ≡ cond (eqb q n) (f n) (has (those n f) q)) → (32 ≤ n → r ≡ those n f) → r ≡ those (n + 1) f
-those-more n f r own past = more
+-- a set whose members are those of which f is true, all of them below n
+pub those_all : (n : ℕ) (f : ℕ → Bool) (s : StateSet) → ((q : ℕ) → has s q ≡ f q) → ((q : ℕ) → f q ≡ true → q < n) → s ≡ those n f
+those_all n f s h within = those_is n f s (λ q l. h q ∙ below q (f q) (within q))
   where
-    test : (q : ℕ) → (q ≡ n → ⊥) → ltb q n ≡ ltb q (n + 1)
-    test q ne =
-        elim (cases_lt q n) [
-          | inl l ↦ lt-ltb q n l ∙ sym (lt-ltb q (n + 1) (omega arith))
-          | inr g ↦ le-ltb q n g ∙ sym (le-ltb q (n + 1) (omega arith))
-        ]
+    below : (q : ℕ) (b : Bool) → (b ≡ true → q < n) → b ≡ (ltb q n && b)
+    below q true k = sym (and_from (ltb q n) true (lt-ltb q n (k refl)) refl)
+    below q false k = sym (and_right (ltb q n) false refl)
 
-    below : n < 32 → (q : ℕ) → q < 32 → has r q ≡ (ltb q (n + 1) && f q)
-    below l q lq =
-        own l q ∙ elim (cases_eq q n) [
-          | inl same ↦ ap (λ b. cond b (f n) (has (those n f) q)) (eq-eqb q n same)
-              ∙ ap f (sym same) ∙ sym (ap (λ b. b && f q) (lt-ltb q (n + 1) (omega arith)))
-          | inr ne ↦ ap (λ b. cond b (f n) (has (those n f) q)) (ne_eqb q n ne)
-              ∙ those-has n f q lq ∙ ap (λ b. b && f q) (test q ne)
-        ]
+-- the members of both sets
+abbrev pub either : StateSet → StateSet → StateSet
+either s t = those 32 (λ q. has s q || has t q)
 
-    beyond : 32 ≤ n → (q : ℕ) → q < 32 → has r q ≡ (ltb q (n + 1) && f q)
-    beyond g q lq = ap (λ s. has s q) (past g) ∙ those-has n f q lq ∙ ap (λ b. b && f q) (test q (λ e. omega arith))
+pub has-either : (s t : StateSet) (q : ℕ) → has (either s t) q ≡ (has s q || has t q)
+has-either s t q =
+    elim (cases_lt q 32) [
+      | inl l ↦ those-has 32 (λ p. has s p || has t p) q l ∙ ap (λ b. b && (has s q || has t q)) (lt-ltb q 32 l)
+      | inr g ↦ has-past (either s t) q g ∙ sym (or_from (has s q) (has t q) (has-past s q g) (has-past t q g))
+    ]
 
-    more : r ≡ those (n + 1) f
-    more =
-        let at : (q : ℕ) → q < 32 → has r q ≡ (ltb q (n + 1) && f q) = elim (cases_lt n 32) [ inl l ↦ below l | inr g ↦ beyond g ] in
-        those_is (n + 1) f r at
+pub either_is : (s t r : StateSet) → ((q : ℕ) → has r q ≡ (has s q || has t q)) → r ≡ either s t
+either_is s t r h = those_is 32 (λ q. has s q || has t q) r (λ q l. h q ∙ sym (ap (λ b. b && (has s q || has t q)) (lt-ltb q 32 l)))

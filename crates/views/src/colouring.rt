@@ -1,7 +1,8 @@
-ghost use Rattle.std.specs.Prelude.{◌≡◌, slice_index_or, slice_set};
-ghost use Rattle.views.specs.Colourings.{plain};
+ghost use Rattle.std.specs.Prelude.{◌≡◌, ℕ, ◌<◌, ◌≤◌, slice_index_or, slice_set};
+ghost use Rattle.views.specs.Colourings.{plain, coloured};
 
 use kinds::kind::Kind;
+use std::array;
 
 // A code for each of 128 places.
 #[derive(Clone, Copy)]
@@ -17,26 +18,36 @@ impl Colouring {
         Colouring { codes: [code; 128] }
     }
 
+    // The code that `code` gives in each place below the count, and none in the others.
+    pub(crate) fn of<K: Kind, F: Fn(usize) -> u8>(count: usize, code: F) -> Colouring
+        requires { F.IsAlwaysCallable code }
+        ensures { (f : ℕ → ℕ) → ((p r : ℕ) → F.post code p r → r ≡ f p) → result ≡ coloured K.model count f }
+    {
+        Colouring {
+            codes: array::from_fn(
+                |p|
+                    requires { F.IsAlwaysCallable code }
+                    ensures below { p < count → F.post code p result }
+                    ensures past { count ≤ p → result ≡ K.model.none }
+                { if p < count { code(p) } else { K::none() } },
+            ),
+        }
+    }
+
     // The code at a place; from place 128 on it is none.
     pub fn code<K: Kind>(&self, place: usize) -> u8
         ensures { result ≡ slice_index_or self.now.codes place K.model.none }
     {
-        if place < 128 {
-            self.codes[place]
-        } else {
-            K::none()
-        }
+        self.codes.get(place).copied().unwrap_or(K::none())
     }
 
     // The colouring with another code at one place; a place from 128 on changes nothing.
-    pub fn put(self, place: usize, code: u8) -> Colouring
+    pub fn put(mut self, place: usize, code: u8) -> Colouring
         ensures { result.codes ≡ slice_set self.codes place code }
     {
-        if place >= 128 {
-            return self;
+        if place < 128 {
+            self.codes[place] = code;
         }
-        let mut codes = self.codes;
-        codes[place] = code;
-        Colouring { codes }
+        self
     }
 }

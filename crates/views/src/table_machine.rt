@@ -15,20 +15,14 @@ use tables::table::Table;
 pub fn value_at<K: Kind>(grid: &Grid, state: usize) -> u8
     ensures { result ≡ value_of_state K.model (shown grid.now) state }
 {
-    match grid.value(state) {
-        Some(code) => code,
-        None => K::none(),
-    }
+    grid.value(state).unwrap_or(K::none())
 }
 
 // The state to which a letter leads; from what is no state, and by what is no letter, no step is made.
 pub fn next_state(grid: &Grid, state: usize, letter: usize) -> usize
     ensures { result ≡ table_step (length (sign_bytes grid.now.signs)) (shown grid.now) state letter }
 {
-    match grid.next(state, letter) {
-        Some(next) => next,
-        None => state,
-    }
+    grid.next(state, letter).unwrap_or(state)
 }
 
 // A table as a machine: from state 0 by its cells. What is no state stays where it is and has the

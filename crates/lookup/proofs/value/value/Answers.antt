@@ -1,4 +1,4 @@
-use Rattle.std.proofs.Common.{◌≡◌, ℕ, ◌<◌, List, length, get_or, take, ap, ◌∙◌, subst, arith}
+use Rattle.std.proofs.Common.{◌≡◌, ℕ, ◌<◌, List, Option, Some, length, get_or, take, ap, ◌∙◌, subst, sym, arith}
 use Rattle.std.proofs.lemmas.List.{take_all}
 use Rattle.kinds.specs.Kinds.{clean}
 use Rattle.automata.specs.declared.signs.Signs.{Signs}
@@ -7,7 +7,7 @@ use Rattle.machines.specs.Tables.{table_step}
 use Rattle.tables.specs.declared.grid.Grid.{Grid}
 use Rattle.tables.specs.Shown.{shown}
 use Rattle.views.specs.TableViews.{value_of_state}
-use Rattle.lookup.specs.Lookups.{Spells}
+use Rattle.lookup.specs.Lookups.{Spells, LetterOf}
 use Rattle.lookup.proofs.Spelling.{led-more, led-says}
 use Rattle.lookup.proofs.value.value.Goals as goal
 
@@ -15,13 +15,15 @@ pub loop-place-preserved : goal.loop-place-preserved
 loop-place-preserved g c =
     let t = c.args.table.now.grid in
     let text = c.args.text.now in
+    let k = c.loop-place.place in
+    let letter = c.in_ok-letter.letter in
     let e = c.grid-grid.ensures in
-    let signs = c.signs-signs.ensures ∙ ap (λ (x : Grid). x.signs) e in
-    let s = c.in-Some.ensures in
-    let f = ap (λ (x : Signs). sign_bytes x) signs in
-    led-more g.K.Kind.model t text c.loop-place.place c.loop-place.state c.in-Some.letter c.next_state-state.result c.loop-place.invariant c.loop-place-test.true
-    (subst (λ (xs : List ℕ). c.in-Some.letter < length xs) f s.0) (subst (λ (xs : List ℕ). get_or xs c.in-Some.letter 0 ≡ get_or text c.loop-place.place 0) f s.1)
-    (c.next_state-state.ensures ∙ ap (λ (x : Grid). table_step (length (sign_bytes x.signs)) (shown x) c.loop-place.state c.in-Some.letter) e)
+    let f = ap (λ (x : Signs). sign_bytes x) (c.signs-signs.ensures ∙ ap (λ (x : Grid). x.signs) e) in
+    let s =
+    subst (λ (xs : List ℕ). LetterOf xs (get_or text k 0) (Some letter)) f
+    (subst (LetterOf (sign_bytes c.signs-signs.result) (get_or text k 0)) c.in_ok-letter.ensures.ok_part c.letter_of.ensures) in
+    led-more g.K.Kind.model t text k c.loop-place.state letter c.next_state-state.result c.loop-place.invariant c.loop-place-test.true s.0 s.1
+    (c.next_state-state.ensures ∙ ap (λ (x : Grid). table_step (length (sign_bytes x.signs)) (shown x) c.loop-place.state letter) e)
 
 pub returns : goal.returns
 returns g c =

@@ -1,21 +1,29 @@
-use Rattle.std.proofs.Common.{◌∙◌}
-use Rattle.automata.specs.Drafts.{size}
-use Rattle.automata.specs.Shown.{shown}
-use Rattle.views.specs.DraftViews.{leads_into}
-use Rattle.views.specs.Those.{those}
-use Rattle.views.proofs.ThoseLaws.{those-none}
-use Rattle.views.proofs.Loops.{at_end, put_next}
+use Rattle.std.proofs.Common.{ℕ, ◌&&◌, map, ap, ◌∙◌, rules}
+use Rattle.std.specs.List.{fold, filter}
+use Rattle.automata.specs.declared.sets.StateSet.{StateSet}
+use Rattle.automata.specs.Held.{ends_of}
+use Rattle.automata.specs.Sets.{has}
+use Rattle.automata.specs.Tests.{some}
+use Rattle.automata.proofs.SetLaws.{same_members}
+use Rattle.views.proofs.Chains.{range_items, chain}
+use Rattle.views.proofs.Folded.{has-united}
+use Rattle.views.proofs.ThoseLaws.{either, either_is}
+use Rattle.views.proofs.Reaches.{ends_are}
 use Rattle.views.proofs.forward_draft.ends_set.Goals as goal
 
-pub loop-q-init : goal.loop-q-init
-loop-q-init c = c.empty-ends.ensures ∙ those-none (leads_into (shown c.args.automaton.now) c.args.set c.args.letter)
-
-pub loop-q-preserved : goal.loop-q-preserved
-loop-q-preserved c =
-    put_next c.loop-q.q (leads_into (shown c.args.automaton.now) c.args.set c.args.letter) c.leads_to.result c.put-ends.result c.loop-q.ends c.loop-q.invariant c.leads_to.ensures
-    c.put-ends.ensures.own c.put-ends.ensures.past
-
 pub returns : goal.returns
-returns c =
-    let d = shown c.args.automaton.now in
-    at_end (λ n. those n (leads_into d c.args.set c.args.letter)) c.loop-q.ends c.loop-q.q c.state_count-count.result (size d) c.loop-q.invariant c.loop-q.auto.q-end c.loop-q-test.false c.state_count-count.ensures
+returns c = ends_are c.args.automaton.now c.fold.result c.args.set c.args.letter (λ q.
+    let s = has c.args.set in
+    let ends : ℕ → StateSet = λ p. ends_of c.args.automaton.now.rows p c.args.letter in
+    let n = c.state_count.result in
+    let a = c.fold.ensures.runs in
+    let b = c.map.ensures.runs a.0 a.0.seen a.1 in
+    let d = c.filter.ensures.runs b.0 b.0.seen b.1 in
+    ap (λ (t : StateSet). has t q)
+    (a.3 either (λ x y z h k. (Prim.search rules, either_is x y z (Prim.search rules)))
+    ∙ ap (fold either c.empty.result)
+        (b.2.3 ends (λ x z h k. (Prim.search rules, same_members z (ends x) (Prim.search rules)))
+        ∙ ap (map ends) (d.2.4 s (λ x z h k. Prim.search rules) ∙ ap (filter s) (range_items d.0 n (d.2.0 ∙ b.2.0 ∙ a.2) d.1)))
+    ∙ ap (λ (x : StateSet). chain either x s ends n) c.empty.ensures)
+    ∙ has-united s ends n q
+    ∙ ap (λ m. some m (λ p. s p && has (ends p) q)) c.state_count.ensures)

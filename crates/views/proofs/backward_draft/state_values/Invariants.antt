@@ -1,8 +1,0 @@
-use Rattle.std.proofs.Common.{◌≡◌}
-use Rattle.automata.specs.Shown.{shown}
-use Rattle.views.specs.Colourings.{coloured}
-use Rattle.views.specs.DraftViews.{code_of_state}
-use Rattle.views.proofs.backward_draft.state_values.Given as goal
-
-abbrev pub invariant-loop-p : goal.invariant-loop-p
-invariant-loop-p g l = l.colouring ≡ coloured g.K.Kind.model l.p (code_of_state g.K.Kind.model (shown l.automaton))
