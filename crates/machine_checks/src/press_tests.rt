@@ -278,7 +278,14 @@ fn told() -> Result<Draft<Y>, Fail> {
     draft.grow(1)?;
     draft.grow(1)?;
     draft.enter(0)?;
-    for (from, letter, to) in [(0, 0, 1), (0, 0, 2), (1, 0, 3), (2, 1, 3), (3, 0, 3), (3, 1, 3)] {
+    for (from, letter, to) in [
+        (0, 0, 1),
+        (0, 0, 2),
+        (1, 0, 3),
+        (2, 1, 3),
+        (3, 0, 3),
+        (3, 1, 3),
+    ] {
         draft.link(Arrow { from, letter, to })?;
     }
     Ok(draft)
