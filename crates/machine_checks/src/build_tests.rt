@@ -1,20 +1,22 @@
 use crate::counter::Counter;
 use automata::signs::Signs;
+use kinds::yes_no::Y;
 use machines::machine::Machine;
 use rolls::fault::RollFault;
 use rolls::roll::Roll;
 use rolls::state::State;
 use std::test::Fail;
-use tables::build::Build;
 use tables::grid::building::build;
+use tables::table::Table;
 
 // How many states the table of a counter has, where it is built into this many entries.
 fn built(signs: Signs, limit: u64, room: usize) -> Option<usize> {
     let mut entries = [9u64; 200];
-    let mut left = Build::fresh(signs, &mut entries[..room.min(200)]);
-    build(&Counter { signs, limit }, &mut left)
+    let mut table = Table::<Y>::blank(signs);
+    let mut roll = Roll::fresh(&mut entries[..room.min(200)]);
+    build(&Counter { signs, limit }, &mut table, &mut roll)
         .ok()
-        .map(|()| left.table.grid().state_count())
+        .map(|()| table.grid().state_count())
 }
 
 #[test]
@@ -37,9 +39,10 @@ fn rows_of_a_counter(rt: HostRuntime) -> Result<(), Fail> {
     let signs = Signs::new(b"ab")?;
     let machine = Counter { signs, limit: 2 };
     let mut entries = [9u64; 5];
-    let mut left = Build::fresh(signs, &mut entries);
-    assert!(rt; build(&machine, &mut left).is_ok());
-    let grid = left.table.grid();
+    let mut table = Table::<Y>::blank(signs);
+    let mut roll = Roll::fresh(&mut entries);
+    assert!(rt; build(&machine, &mut table, &mut roll).is_ok());
+    let grid = table.grid();
     assert_eq!(rt; grid.value(1), Some(1));
     assert_eq!(rt; grid.value(3), None);
     assert_eq!(rt; grid.next(0, 0), Some(1));

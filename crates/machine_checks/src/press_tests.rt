@@ -8,14 +8,15 @@ use machines::machine::Machine;
 use pressing::faults::{PressFault, VerdictFault};
 use pressing::judging::Verdict;
 use pressing::once::once;
-use pressing::press::{Press, press_draft, press_machine};
+use pressing::press::{press_draft, press_machine};
 use pressing::verdict::verdict;
 use reports::pressed::pressed;
+use rolls::roll::Roll;
 use rolls::state::State;
 use std::alloc::Global;
 use std::process::Abort;
 use std::test::Fail;
-use tables::build::Build;
+use tables::table::Table;
 use texts::any::AnyDraft;
 use texts::reading::read_draft;
 use views::colouring::Colouring;
@@ -133,10 +134,10 @@ fn from_front(heap: Global, n: u8) -> Result<String, Fail> {
 // How many states the one-way build of a draft has.
 fn forward_count(draft: &Draft<Y>) -> Option<usize> {
     let mut sets = [Reached::blank(); 128];
-    let mut left = Build::fresh(draft.automaton().sign_list(), &mut sets);
-    once(draft, &mut left)
+    let mut table = Table::<Y>::blank(draft.automaton().sign_list());
+    once(draft, &mut table, &mut Roll::fresh(&mut sets))
         .ok()
-        .map(|()| left.table.grid().state_count())
+        .map(|()| table.grid().state_count())
 }
 
 #[test]
@@ -176,13 +177,19 @@ fn counted(signs: Signs, limit: u64, room: usize) -> Result<usize, PressFault> {
     let mut states = [9u64; 200];
     let mut columns = [Colouring::plain(9); 128];
     let mut rows = [Colouring::plain(9); 128];
-    let mut first = Build::fresh(signs, &mut states[..room.min(200)]);
-    let mut press = Press {
-        back: Build::fresh(signs, &mut columns),
-        last: Build::fresh(signs, &mut rows),
-    };
-    press_machine(&Counter { signs, limit }, &mut first, &mut press)?;
-    Ok(press.last.table.grid().state_count())
+    let mut first = Table::<Y>::blank(signs);
+    let mut back = Table::<Y>::blank(signs);
+    let mut last = Table::<Y>::blank(signs);
+    press_machine(
+        &Counter { signs, limit },
+        &mut first,
+        &mut Roll::fresh(&mut states[..room.min(200)]),
+        &mut back,
+        &mut Roll::fresh(&mut columns),
+        &mut last,
+        &mut Roll::fresh(&mut rows),
+    )?;
+    Ok(last.grid().state_count())
 }
 
 #[test]
@@ -216,18 +223,21 @@ fn marked() -> Result<Draft<M>, Fail> {
 fn a_refused_press_leaves_nothing(rt: HostRuntime) -> Result<(), Fail> {
     let draft = marked()?;
     let signs = draft.automaton().sign_list();
+    let mut back = Table::<M>::blank(signs);
+    let mut last = Table::<M>::blank(signs);
     let mut columns = [Colouring::plain(9); 3];
     let mut rows = [Colouring::plain(9); 1];
-    let mut press = Press {
-        back: Build::fresh(signs, &mut columns),
-        last: Build::fresh(signs, &mut rows),
-    };
-    assert_eq!(rt; press_draft(&draft, &mut press), Err(PressFault::Last));
-    assert_eq!(rt; press.back.roll.len(), 0);
-    assert_eq!(rt; press.last.roll.len(), 0);
-    assert_eq!(rt; press.back.table.grid().state_count(), 1);
-    assert_eq!(rt; press.back.table.grid().value(0), Some(0));
-    assert_eq!(rt; press.last.table.grid().state_count(), 1);
+    let mut columns_roll = Roll::fresh(&mut columns);
+    let mut chart = Roll::fresh(&mut rows);
+    assert_eq!(rt;
+        press_draft(&draft, &mut back, &mut columns_roll, &mut last, &mut chart),
+        Err(PressFault::Last)
+    );
+    assert_eq!(rt; columns_roll.len(), 0);
+    assert_eq!(rt; chart.len(), 0);
+    assert_eq!(rt; back.grid().state_count(), 1);
+    assert_eq!(rt; back.grid().value(0), Some(0));
+    assert_eq!(rt; last.grid().state_count(), 1);
     assert!(rt;
         columns[0].codes == [0; 128] && columns[1].codes == [0; 128] && columns[2].codes == [0; 128]
     );
@@ -241,32 +251,41 @@ fn a_draft_and_its_table_are_pressed_to_one_table(rt: HostRuntime) -> Result<(),
     let signs = draft.automaton().sign_list();
     let mut columns = [Colouring::plain(9); 8];
     let mut rows = [Colouring::plain(9); 8];
-    let mut press = Press {
-        back: Build::fresh(signs, &mut columns),
-        last: Build::fresh(signs, &mut rows),
-    };
-    assert!(rt; press_draft(&draft, &mut press).is_ok());
-    assert_eq!(rt; press.back.table.grid().state_count(), 2);
-    let last = press.last.table;
+    let mut back = Table::<M>::blank(signs);
+    let mut last = Table::<M>::blank(signs);
+    let mut columns_roll = Roll::fresh(&mut columns);
+    let mut chart = Roll::fresh(&mut rows);
+    assert!(rt; press_draft(&draft, &mut back, &mut columns_roll, &mut last, &mut chart).is_ok());
+    assert_eq!(rt; back.grid().state_count(), 2);
     assert_eq!(rt; last.grid().state_count(), 2);
     let mut sets = [Reached::blank(); 8];
-    let mut forward = Build::fresh(signs, &mut sets);
-    assert!(rt; once(&draft, &mut forward).is_ok());
-    assert_eq!(rt; forward.table.grid().state_count(), 2);
+    let mut forward = Table::<M>::blank(signs);
+    assert!(rt; once(&draft, &mut forward, &mut Roll::fresh(&mut sets)).is_ok());
+    assert_eq!(rt; forward.grid().state_count(), 2);
     let mut numbers = [9usize; 8];
-    let mut first = Build::fresh(signs, &mut numbers);
-    let machine = TableMachine {
-        table: &forward.table,
-    };
-    assert!(rt; press_machine(&machine, &mut first, &mut press).is_ok());
-    let again = &press.last.table;
+    let mut first = Table::<M>::blank(signs);
+    let mut again = Table::<M>::blank(signs);
+    let machine = TableMachine { table: &forward };
+    let mut states = Roll::fresh(&mut numbers);
+    assert!(rt;
+        press_machine(
+            &machine,
+            &mut first,
+            &mut states,
+            &mut back,
+            &mut columns_roll,
+            &mut again,
+            &mut chart,
+        )
+        .is_ok()
+    );
     assert_eq!(rt; again.grid().state_count(), 2);
     for state in 0..2usize {
         assert_eq!(rt; again.grid().value(state), last.grid().value(state));
         assert_eq!(rt; again.grid().next(state, 0), last.grid().next(state, 0));
         assert_eq!(rt; again.grid().next(state, 1), last.grid().next(state, 1));
     }
-    assert!(rt; press.last.roll.get(1).is_some());
+    assert!(rt; chart.get(1).is_some());
     Ok(())
 }
 
@@ -296,11 +315,18 @@ fn judged(draft: &Draft<Y>, state: usize, room: usize) -> Result<Verdict, Verdic
     let signs = draft.automaton().sign_list();
     let mut columns = [Colouring::plain(9); 8];
     let mut rows = [Colouring::plain(9); 8];
-    let mut press = Press {
-        back: Build::fresh(signs, &mut columns[..room.min(8)]),
-        last: Build::fresh(signs, &mut rows),
-    };
-    verdict(draft, state, &mut press)
+    let mut back = Table::<Y>::blank(signs);
+    let mut last = Table::<Y>::blank(signs);
+    let mut columns_roll = Roll::fresh(&mut columns[..room.min(8)]);
+    let mut chart = Roll::fresh(&mut rows);
+    verdict(
+        draft,
+        state,
+        &mut back,
+        &mut columns_roll,
+        &mut last,
+        &mut chart,
+    )
 }
 
 #[test]

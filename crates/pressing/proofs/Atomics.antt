@@ -16,10 +16,6 @@ use Rattle.pressing.specs.Law.{AgreedLeft}
 use Rattle.pressing.specs.Verdicts.{AloneTo, FirstPair, Judged, Means, FirstTold, FirstNotAtomic}
 use Rattle.pressing.proofs.Pressing.{pressed-atomic}
 
--- for loops: one number more
-pub below_more : (P : ℕ → Type 0) (n : ℕ) → ((q : ℕ) → q < n → P q) → P n → (q : ℕ) → q < n + 1 → P q
-below_more P n all one q l = elim (cases_lt q n) [ inl h ↦ all q h | inr g ↦ let e : n ≡ q = omega arith in rw (← e) one ]
-
 module _ (K : KindModel) (back last : Left Colouring) (q : ℕ) where
   -- where no pair tells against q, backward states with equal columns agree at it
   pub alone_agreed : AloneTo K back.entries back.len last.entries last.len q back.len → AgreedLeft K back last q

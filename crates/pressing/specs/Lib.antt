@@ -1,5 +1,4 @@
 pub mod Pressed
-pub mod Loans
 pub mod Sources
 pub mod Press
 pub mod Law

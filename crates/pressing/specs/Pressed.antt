@@ -6,9 +6,10 @@ use Rattle.automata.specs.Drafts.{DraftModel, letters}
 use Rattle.automata.specs.Shown.{sign_bytes}
 use Rattle.drafts.specs.Words.{Over, value}
 use Rattle.machines.specs.Models.{MachineModel, alphabet, meaning, Spread}
+use Rattle.rolls.specs.declared.roll.Roll.{Roll}
 use Rattle.tables.specs.declared.grid.Grid.{Grid}
 use Rattle.tables.specs.Shown.{shown}
-use Rattle.tables.specs.declared.build.Build.{Build}
+use Rattle.tables.specs.declared.table.Table.{Table}
 use Rattle.tables.specs.Builds.{Accepted, Wiped}
 use Rattle.views.specs.declared.colouring.Colouring.{Colouring}
 use Rattle.views.specs.Accepted.{accepted}
@@ -30,8 +31,8 @@ pub record Left (S : Type 0) : Type 0 where
   pub entries : List S
   pub len : ℕ
 
-abbrev pub left_of : {K S : Type 0} → Build K S → Left S
-left_of b = record { table = b.table.grid; entries = b.roll.entries.now; len = b.roll.len }
+abbrev pub left_of : {K S : Type 0} → Table K → Roll S → Left S
+left_of t r = record { table = t.grid; entries = r.entries.now; len = r.len }
 
 -- the table and the states of m are left; d is blank
 abbrev pub Holds : {S : Type 0} → MachineModel S → S → Left S → Type 0

@@ -2,8 +2,9 @@
 ghost use Rattle.std.specs.Prelude.{◌≡◌, ◌<◌, Decides};
 ghost use Rattle.pressing.specs.Verdicts.{SameColumn, Tells, Judged, FirstTold};
 
-use crate::press::Press;
 use kinds::kind::Kind;
+use rolls::roll::Roll;
+use views::colouring::Colouring;
 
 // What is found of a state of a draft. As an option, None would have to mean that the state is atomic.
 #[derive(Clone, Copy, PartialEq, Eq, Debug)]
@@ -13,50 +14,63 @@ pub enum Verdict {
     Told { low: usize, high: usize },
 }
 
-impl<K: Kind> Press<'_, K> {
-    // Whether two columns of the chart are equal.
-    fn same_column(&self, low: usize, high: usize) -> bool
-        ensures { Decides result (SameColumn K.model self.now.last.roll.entries.now self.now.last.roll.len low high) }
-    {
-        let chart = self.last.roll.as_slice();
-        chart
-            .iter()
-            .all(|row| row.code::<K>(low) == row.code::<K>(high))
-    }
+// Whether two columns of the chart are equal.
+fn same_column<K: Kind>(chart: &Roll<'_, Colouring>, low: usize, high: usize) -> bool
+    ensures { Decides result (SameColumn K.model chart.now.entries.now chart.now.len low high) }
+{
+    chart
+        .as_slice()
+        .iter()
+        .all(|row| row.code::<K>(low) == row.code::<K>(high))
+}
 
-    // Whether two backward states tell against a state: their codes there differ, and their columns are equal.
-    fn tells(&self, state: usize, low: usize, high: usize) -> bool
-        requires low { low < self.now.back.roll.len }
-        requires high { high < self.now.back.roll.len }
-        ensures { Decides result (Tells K.model self.now.back.roll.entries.now self.now.last.roll.entries.now self.now.last.roll.len state low high) }
-    {
-        let columns = self.back.roll.as_slice();
-        columns[low].code::<K>(state) != columns[high].code::<K>(state)
-            && self.same_column(low, high)
-    }
+// Whether two backward states tell against a state: their columns are equal and their codes there differ.
+fn tells<K: Kind>(
+    columns: &Roll<'_, Colouring>,
+    chart: &Roll<'_, Colouring>,
+    state: usize,
+    low: usize,
+    high: usize,
+) -> bool
+    requires low { low < columns.now.len }
+    requires high { high < columns.now.len }
+    ensures { Decides result (Tells K.model columns.now.entries.now chart.now.entries.now chart.now.len state low high) }
+{
+    let columns = columns.as_slice();
+    columns[low].code::<K>(state) != columns[high].code::<K>(state)
+        && same_column::<K>(chart, low, high)
+}
 
-    // The verdict on a state, from what a press leaves: the first pair of backward states that tells
-    // against it, by the lower number and then the higher.
-    pub fn judge(&self, state: usize) -> Verdict
-        ensures { Judged K.model self.now.back.roll.entries.now self.now.back.roll.len self.now.last.roll.entries.now self.now.last.roll.len state result }
-    {
-        let columns = self.back.roll.as_slice();
-        let mut verdict = Verdict::Atomic;
-        'pairs: for low in 0..columns.len() {
-            for high in low + 1..columns.len() {
-                if self.tells(state, low, high) {
-                    verdict = Verdict::Told { low, high };
-                    break 'pairs;
-                }
+// The verdict on a state, from what a press leaves: the first pair of backward states that tells
+// against it, by the lower number and then the higher.
+pub fn judge<K: Kind>(
+    columns: &Roll<'_, Colouring>,
+    chart: &Roll<'_, Colouring>,
+    state: usize,
+) -> Verdict
+    ensures { Judged K.model columns.now.entries.now columns.now.len chart.now.entries.now chart.now.len state result }
+{
+    let count = columns.len();
+    let mut verdict = Verdict::Atomic;
+    // the numbers counted here are what the verdict holds
+    'pairs: for low in 0..count {
+        for high in low + 1..count {
+            if tells::<K>(columns, chart, state, low, high) {
+                verdict = Verdict::Told { low, high };
+                break 'pairs;
             }
         }
-        verdict
     }
+    verdict
+}
 
-    // The first of the states below `count` that is not atomic.
-    pub fn first_told(&self, count: usize) -> Option<usize>
-        ensures { FirstTold K.model self.now.back.roll.entries.now self.now.back.roll.len self.now.last.roll.entries.now self.now.last.roll.len count result }
-    {
-        (0..count).find(|state| matches!(self.judge(*state), Verdict::Told { .. }))
-    }
+// The first of the states below `count` that is not atomic.
+pub fn first_told<K: Kind>(
+    columns: &Roll<'_, Colouring>,
+    chart: &Roll<'_, Colouring>,
+    count: usize,
+) -> Option<usize>
+    ensures { FirstTold K.model columns.now.entries.now columns.now.len chart.now.entries.now chart.now.len count result }
+{
+    (0..count).find(|state| matches!(judge::<K>(columns, chart, *state), Verdict::Told { .. }))
 }

@@ -10,11 +10,13 @@ use crate::report::Report;
 use crate::table_text::TableText;
 use drafts::draft::Draft;
 use kinds::kind::Kind;
+use pressing::judging::first_told;
 use pressing::once::once;
-use pressing::press::{Press, press_draft};
+use pressing::press::press_draft;
+use rolls::roll::Roll;
 use rolls::state::State;
 use std::alloc::{AllocError, Global};
-use tables::build::Build;
+use tables::table::Table;
 use texts::any::AnyDraft;
 use texts::faults::Refusal;
 use texts::for_any_kind;
@@ -31,9 +33,10 @@ pub const ROOM: usize = 128;
 fn once_count<K: Kind>(draft: &Draft<K>, sets: &mut [Reached]) -> Option<usize>
     ensures { OnceCount K.model (drawn draft.now) (accepted draft.now.automaton.signs) (length sets.old) result }
 {
-    let mut left = Build::fresh(draft.automaton().sign_list(), sets);
-    once(draft, &mut left).ok()?;
-    Some(left.table.grid().state_count())
+    let mut table = Table::<K>::blank(draft.automaton().sign_list());
+    let mut roll = Roll::fresh(sets);
+    once(draft, &mut table, &mut roll).ok()?;
+    Some(table.grid().state_count())
 }
 
 // What is printed of a draft of any kind, under the letter of its kind, pressed and built in these entries.
@@ -51,19 +54,19 @@ fn press_in<K: Kind>(
 {
     let automaton = draft.automaton();
     let signs = automaton.sign_list();
-    let mut press = Press {
-        back: Build::fresh(signs, columns),
-        last: Build::fresh(signs, chart),
-    };
-    match press_draft(draft, &mut press) {
+    let mut back = Table::<K>::blank(signs);
+    let mut last = Table::<K>::blank(signs);
+    let mut columns = Roll::fresh(columns);
+    let mut chart = Roll::fresh(chart);
+    match press_draft(draft, &mut back, &mut columns, &mut last, &mut chart) {
         Ok(()) => {
             let report = Report {
                 table: TableText {
                     letter,
-                    grid: press.last.table.grid(),
+                    grid: last.grid(),
                 },
-                backward_count: press.back.table.grid().state_count(),
-                not_atomic: press.first_told(automaton.state_count()),
+                backward_count: back.grid().state_count(),
+                not_atomic: first_told::<K>(&columns, &chart, automaton.state_count()),
                 forward_count: once_count(draft, sets),
             };
             written_text(heap, &report)

@@ -5,12 +5,13 @@
 use anyhow::Context;
 use drafts::draft::Draft;
 use kinds::kind::Kind;
-use pressing::press::{Press, press_draft};
+use pressing::press::press_draft;
 use reports::pressed::ROOM;
 use reports::scan_text::add_scan;
+use rolls::roll::Roll;
+use rolls::state::State;
 use std::io::{BufRead, BufReader, Write};
 use std::{env, fs};
-use tables::build::Build;
 use tables::table::Table;
 use texts::faults::Refusal;
 use texts::for_any_kind;
@@ -41,12 +42,17 @@ fn scan<K: Kind>(rt: &HostRuntime, draft: &Draft<K>) -> anyhow::Result<()> {
     let signs = draft.automaton().sign_list();
     let mut columns = vec![in rt.alloc(); Colouring::plain(0); ROOM]?;
     let mut rows = vec![in rt.alloc(); Colouring::plain(0); ROOM]?;
-    let mut press = Press {
-        back: Build::fresh(signs, columns.as_mut_slice()),
-        last: Build::fresh(signs, rows.as_mut_slice()),
-    };
-    match press_draft(draft, &mut press) {
-        Ok(()) => scan_entries(rt, &press.last.table),
+    let mut back = Table::<K>::blank(signs);
+    let mut last = Table::<K>::blank(signs);
+    let pressed = press_draft(
+        draft,
+        &mut back,
+        &mut Roll::fresh(columns.as_mut_slice()),
+        &mut last,
+        &mut Roll::fresh(rows.as_mut_slice()),
+    );
+    match pressed {
+        Ok(()) => scan_entries(rt, &last),
         Err(fault) => print_refusal(rt, Refusal::plain(fault.number())),
     }
 }

@@ -1,7 +1,6 @@
 // Transition tables with values, and one build for every machine.
 #![tactic(auto)]
 
-pub mod build;
 pub mod grid;
 pub mod laws;
 pub mod table;

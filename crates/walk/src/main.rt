@@ -6,12 +6,13 @@
 use drafts::draft::Draft;
 use kinds::kind::Kind;
 use machines::machine::Machine;
+use rolls::roll::Roll;
 use rolls::state::State;
 use std::alloc::Global;
 use std::io::{Read, Write};
-use tables::build::Build;
 use tables::grid::Grid;
 use tables::grid::building::build;
+use tables::table::Table;
 use texts::faults::Refusal;
 use texts::for_any_kind;
 use texts::reading::read_draft;
@@ -82,9 +83,10 @@ fn print_refusal(rt: &HostRuntime, refusal: Refusal) -> anyhow::Result<()> {
 fn walk<K: Kind>(rt: &HostRuntime, draft: &Draft<K>) -> anyhow::Result<()> {
     let machine = ForwardDraft { draft };
     let mut entries = vec![in rt.alloc(); Reached::blank(); 128]?;
-    let mut left = Build::fresh(draft.automaton().sign_list(), entries.as_mut_slice());
-    match build(&machine, &mut left) {
-        Ok(()) => print_rows(rt, left.table.grid()),
+    let mut table = Table::<K>::blank(draft.automaton().sign_list());
+    let mut roll = Roll::fresh(entries.as_mut_slice());
+    match build(&machine, &mut table, &mut roll) {
+        Ok(()) => print_rows(rt, table.grid()),
         Err(fault) => print_refusal(rt, Refusal::plain(fault.number())),
     }
 }

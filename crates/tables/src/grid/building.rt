@@ -1,15 +1,17 @@
 // One build for every machine: the states that words reach, numbered by first reach.
 ghost use Rattle.std.specs.Prelude.{◌≡◌, ◌<◌, ◌≤◌, length, replicate, slice_index_or};
+ghost use Rattle.automata.specs.Shown.{sign_bytes};
 ghost use Rattle.machines.specs.Models.{alphabet};
 ghost use Rattle.rolls.specs.Loans.{KeepsLoan};
-ghost use Rattle.tables.specs.Builds.{build_fault_number, Ended};
+ghost use Rattle.tables.specs.Builds.{build_fault_number, Ended, Wiped};
 ghost use Rattle.tables.specs.Filling.{Filling};
 ghost use Rattle.tables.specs.Steps.{RowEnd, WalkEnd};
 ghost use Rattle.tables.specs.declared.grid.building.BuildFault.{BuildFault};
 
-use crate::build::Build;
 use crate::grid::Grid;
 use crate::table::Table;
+use automata::signs::Signs;
+use kinds::kind::Kind;
 use machines::machine::Machine;
 use rolls::fault::RollFault;
 use rolls::roll::Roll;
@@ -117,21 +119,31 @@ fn walk<M: Machine>(
     Ok(i)
 }
 
+// Leaves a blank table with these signs, and an empty and blank roll.
+pub fn wipe<K: Kind, T: State>(signs: Signs, table: &mut Table<K>, roll: &mut Roll<'_, T>)
+    ensures kept { KeepsLoan roll.old roll.new }
+    ensures wiped { Wiped (sign_bytes signs) K.Kind.model.none T.State.blank table.new.grid roll.new.entries.now roll.new.len }
+{
+    *table = Table::blank(signs);
+    roll.clear();
+}
+
 // Writes the states that words reach in the machine into the table and the roll, numbered by first
 // reach. Refused where there are more than 128 of them, or more than the roll has entries; the table
 // is then blank, and the roll empty and blank.
 pub fn build<M: Machine>(
     machine: &M,
-    left: &mut Build<'_, M::Kind, M::State>,
+    table: &mut Table<M::Kind>,
+    roll: &mut Roll<'_, M::State>,
 ) -> Result<(), BuildFault>
-    ensures kept { KeepsLoan left.old.roll left.new.roll }
-    ensures ended { Ended (M.meaning machine.now) M.State.State.blank left.new.table.grid left.new.roll.entries.now left.new.roll.len result }
+    ensures kept { KeepsLoan roll.old roll.new }
+    ensures ended { Ended (M.meaning machine.now) M.State.State.blank table.new.grid roll.new.entries.now roll.new.len result }
 {
     let signs = machine.signs();
     let mut values = [0; 128];
     let mut next = [[0; 16]; 128];
-    left.roll.clear();
-    match walk(machine, signs.len(), &mut values, &mut next, &mut left.roll) {
+    roll.clear();
+    match walk(machine, signs.len(), &mut values, &mut next, roll) {
         Ok(count) => {
             let grid = Grid {
                 signs,
@@ -139,11 +151,11 @@ pub fn build<M: Machine>(
                 values,
                 next,
             };
-            left.table = Table::of(grid);
+            *table = Table::of(grid);
             Ok(())
         }
         Err(fault) => {
-            left.wipe(signs);
+            wipe(signs, table, roll);
             Err(fault)
         }
     }

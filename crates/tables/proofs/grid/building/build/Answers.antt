@@ -29,5 +29,5 @@ returns-in-Ok-clause-ended g c =
     let s = c.signs-signs in
     let roll = c.walk.new.roll in
     let q = c.in-Ok.ensures.ended in
-    subst (λ (t : Grid). Accepted m d t roll.entries.now roll.len) (sym c.of-left.ensures)
+    subst (λ (t : Grid). Accepted m d t roll.entries.now roll.len) (sym c.of.ensures)
     (accepted m d _ _ c.in-Ok.count _ s.result refl s.ensures.signs refl q.0 q.1)

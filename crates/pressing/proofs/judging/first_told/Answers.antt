@@ -2,13 +2,13 @@ use Rattle.std.proofs.Common.{ℕ, rules}
 use Rattle.std.proofs.lemmas.Iterator.{first_from_Range}
 use Rattle.pressing.specs.Verdicts.{AloneTo, FirstPair}
 use Rattle.pressing.proofs.Columns.{told_of}
-use Rattle.pressing.proofs.press.Press.first_told.Goals as goal
+use Rattle.pressing.proofs.judging.first_told.Goals as goal
 
 pub returns : goal.returns
 returns g c =
     let K = g.K.Kind.model in
-    let back = c.args.self.now.back.roll in
-    let last = c.args.self.now.last.roll in
+    let back = c.args.columns.now in
+    let last = c.args.chart.now in
     told_of K back.entries.now back.len last.entries.now last.len c.args.count c.find.result
     (first_from_Range _ _ _ c.find.result
     (λ q. (i : ℕ) × (j : ℕ) × FirstPair K back.entries.now back.len last.entries.now last.len q i j)
