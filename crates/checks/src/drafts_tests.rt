@@ -13,10 +13,7 @@ use std::test::Fail;
 
 // The fault of opening with these signs.
 fn fault(signs: &[u8]) -> Option<SignFault> {
-    match Draft::<Y>::open(signs) {
-        Ok(_) => None,
-        Err(fault) => Some(fault),
-    }
+    Draft::<Y>::open(signs).err()
 }
 
 fn arrow(from: usize, letter: usize, to: usize) -> Arrow

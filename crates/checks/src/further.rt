@@ -27,7 +27,7 @@ impl Kind for Gaps {
     ghost model = { gaps };
 
     fn admits(code: u8) -> bool {
-        code == 0 || code == 2 || code == 7
+        matches!(code, 0 | 2 | 7)
     }
 
     fn combine(a: u8, b: u8) -> u8 {

@@ -1,5 +1,5 @@
 // Whatever has a written form.
-ghost use Rattle.std.specs.Prelude.{◌≡◌, ℕ, List, length};
+ghost use Rattle.std.specs.Prelude.{◌≡◌, ℕ, List, ◌∷◌, length, decimal};
 ghost use Rattle.fields.specs.Writing.{capped, Puts};
 ghost use Rattle.fields.specs.Written.{write_fault_number, Wrote};
 
@@ -50,5 +50,30 @@ pub trait Written {
         let mut writer = Writer::new(out);
         self.put(&mut writer);
         Ok(writer.len())
+    }
+}
+
+// A number in decimal digits.
+#[derive(Clone, Copy, PartialEq, Eq, Debug)]
+pub struct Number(pub usize);
+
+impl Written for Number {
+    ghost text = { λ n. decimal n.0 };
+
+    fn put(&self, out: &mut Writer<'_>) {
+        out.put_number(self.0 as u64);
+    }
+}
+
+// A number as a field of a line: behind a tab.
+#[derive(Clone, Copy, PartialEq, Eq, Debug)]
+pub struct Field(pub usize);
+
+impl Written for Field {
+    ghost text = { λ f. 9 ∷ decimal f.0 };
+
+    fn put(&self, out: &mut Writer<'_>) {
+        out.put(b"\t");
+        Number(self.0).put(out);
     }
 }

@@ -1,5 +1,4 @@
 use crate::counter::Counter;
-use automata::faults::SignFault;
 use automata::signs::Signs;
 use kinds::yes_no::Y;
 use machines::machine::Machine;
@@ -11,32 +10,27 @@ use tables::grid::building::build;
 use tables::table::Table;
 
 // How many states the table of a counter has, where it is built into this many entries.
-fn built(limit: u64, room: usize) -> Result<Option<usize>, SignFault> {
-    let signs = Signs::new(b"ab")?;
-    let machine = Counter { signs, limit };
+fn built(signs: Signs, limit: u64, room: usize) -> Option<usize> {
     let mut entries = [9u64; 200];
-    if room > 200 {
-        return Ok(None);
-    }
     let mut table = Table::<Y>::blank(signs);
-    let mut roll = Roll::fresh(&mut entries[0..room]);
-    match build(&machine, &mut table, &mut roll) {
-        Ok(()) => Ok(Some(table.grid().state_count())),
-        Err(_) => Ok(None),
-    }
+    let mut roll = Roll::fresh(&mut entries[..room.min(200)]);
+    build(&Counter { signs, limit }, &mut table, &mut roll)
+        .ok()
+        .map(|()| table.grid().state_count())
 }
 
 #[test]
 fn states_and_entries_at_their_edges(rt: HostRuntime) -> Result<(), Fail> {
-    assert_eq!(rt; built(127, 128)?, Some(128));
-    assert_eq!(rt; built(127, 200)?, Some(128));
-    assert_eq!(rt; built(127, 127)?, None);
-    assert_eq!(rt; built(128, 200)?, None);
-    assert_eq!(rt; built(0, 0)?, None);
-    assert_eq!(rt; built(0, 1)?, Some(1));
-    assert_eq!(rt; built(4, 4)?, None);
-    assert_eq!(rt; built(4, 5)?, Some(5));
-    assert_eq!(rt; built(u64::MAX, 200)?, None);
+    let signs = Signs::new(b"ab")?;
+    assert_eq!(rt; built(signs, 127, 128), Some(128));
+    assert_eq!(rt; built(signs, 127, 200), Some(128));
+    assert_eq!(rt; built(signs, 127, 127), None);
+    assert_eq!(rt; built(signs, 128, 200), None);
+    assert_eq!(rt; built(signs, 0, 0), None);
+    assert_eq!(rt; built(signs, 0, 1), Some(1));
+    assert_eq!(rt; built(signs, 4, 4), None);
+    assert_eq!(rt; built(signs, 4, 5), Some(5));
+    assert_eq!(rt; built(signs, u64::MAX, 200), None);
     Ok(())
 }
 

@@ -4,7 +4,6 @@ use kinds::yes_no::Y;
 use lookup::faults::{LongestFault, ValueFault};
 use lookup::longest::longest;
 use lookup::value::value;
-use std::process::Abort;
 use std::test::Fail;
 use tables::grid::laying::{LayFault, lay};
 use tables::table::Table;
@@ -14,31 +13,16 @@ fn arms() -> Result<Table<R>, LayFault> {
     lay::<R>(b"ab", 5, &[0, 3, 0, 0, 7], &[1, 2, 1, 3, 4, 3, 3, 3, 4, 3])
 }
 
-// Whether the longest front part is this, with this value.
-fn front(
-    rt: &impl Abort,
-    table: &Table<R>,
-    text: &[u8],
-    part: &[u8],
-    code: u8,
-) -> Result<(), Fail> {
-    match longest(table, text) {
-        Ok((found, value)) => {
-            assert!(rt; found == part && value == code);
-            Ok(())
-        },
-        Err(_) => {
-            assert!(rt; false);
-            Ok(())
-        },
-    }
+// The longest front part that has a value, and that value.
+fn front<'t>(table: &Table<R>, text: &'t [u8]) -> Option<(&'t [u8], u8)> {
+    longest(table, text).ok()
 }
 
 #[test]
 fn texts_are_read_through_a_table(rt: HostRuntime) -> Result<(), Fail> {
     let table = arms()?;
-    front(&rt, &table, b"aab", b"aa", 3)?;
-    front(&rt, &table, b"baa+", b"baa", 7)?;
+    assert!(rt; front(&table, b"aab") == Some((b"aa", 3)));
+    assert!(rt; front(&table, b"baa+") == Some((b"baa", 7)));
     assert!(rt; longest(&table, b"b").is_err());
     assert!(rt; longest(&table, b"").is_err());
     assert!(rt; longest(&table, b"+a").is_err());
@@ -57,53 +41,54 @@ fn texts_are_read_through_a_table(rt: HostRuntime) -> Result<(), Fail> {
 fn an_empty_front_part_counts(rt: HostRuntime) -> Result<(), Fail> {
     let table = lay::<R>(b"a", 2, &[5, 0], &[1, 1])?;
     assert_eq!(rt; value(&table, b""), Ok(5));
-    front(&rt, &table, b"aaa", b"", 5)?;
-    front(&rt, &table, b"", b"", 5)?;
-    front(&rt, &table, b"?", b"", 5)
+    assert!(rt; front(&table, b"aaa") == Some((b"", 5)));
+    assert!(rt; front(&table, b"") == Some((b"", 5)));
+    assert!(rt; front(&table, b"?") == Some((b"", 5)));
+    Ok(())
 }
 
-// The number of the refusal of a table with this many states, values and next states; 0 where it is laid.
-fn laid(count: usize, values: usize, cells: usize) -> u8 {
+// The number of the refusal of a table.
+fn refused(signs: &[u8], count: usize, values: &[u8], next: &[usize]) -> Option<u8> {
+    lay::<Y>(signs, count, values, next)
+        .err()
+        .map(LayFault::number)
+}
+
+// The number of the refusal of a table with this many states, values and next states.
+fn refused_by_size(count: usize, values: usize, cells: usize) -> Option<u8> {
     let codes = [1u8; 200];
     let next = [0usize; 400];
-    match lay::<Y>(
+    refused(
         b"ab",
         count,
-        &codes[0..values.min(200)],
-        &next[0..cells.min(400)],
-    ) {
-        Ok(_) => 0,
-        Err(fault) => fault.number(),
-    }
+        &codes[..values.min(200)],
+        &next[..cells.min(400)],
+    )
 }
 
 #[test]
 fn tables_are_laid(rt: HostRuntime) {
-    assert_eq!(rt; laid(1, 1, 2), 0);
-    assert_eq!(rt; laid(128, 128, 256), 0);
-    assert_eq!(rt; laid(129, 129, 258), 14);
-    assert_eq!(rt; laid(0, 0, 0), 14);
-    assert_eq!(rt; laid(3, 2, 6), 14);
-    assert_eq!(rt; laid(3, 4, 6), 14);
-    assert_eq!(rt; laid(3, 3, 5), 14);
-    assert_eq!(rt; laid(3, 3, 7), 14);
+    assert_eq!(rt; refused_by_size(1, 1, 2), None);
+    assert_eq!(rt; refused_by_size(128, 128, 256), None);
+    assert_eq!(rt; refused_by_size(129, 129, 258), Some(14));
+    assert_eq!(rt; refused_by_size(0, 0, 0), Some(14));
+    assert_eq!(rt; refused_by_size(3, 2, 6), Some(14));
+    assert_eq!(rt; refused_by_size(3, 4, 6), Some(14));
+    assert_eq!(rt; refused_by_size(3, 3, 5), Some(14));
+    assert_eq!(rt; refused_by_size(3, 3, 7), Some(14));
     assert!(rt; lay::<Y>(b"", 0, &[], &[9]).is_err());
-    assert_eq!(rt; refused(b"", 0, &[2], &[9]), 1, "the signs come first");
-    assert_eq!(rt; refused(b"aa", 0, &[2], &[9]), 2);
-    assert_eq!(rt; refused(b"a", 0, &[2], &[9]), 14);
+    assert_eq!(rt;
+        refused(b"", 0, &[2], &[9]),
+        Some(1),
+        "the signs come first"
+    );
+    assert_eq!(rt; refused(b"aa", 0, &[2], &[9]), Some(2));
+    assert_eq!(rt; refused(b"a", 0, &[2], &[9]), Some(14));
     assert_eq!(rt;
         refused(b"a", 1, &[2], &[1]),
-        15,
+        Some(15),
         "the next states before the values"
     );
-    assert_eq!(rt; refused(b"a", 1, &[2], &[0]), 5);
-    assert_eq!(rt; refused(b"a", 1, &[1], &[0]), 0);
-}
-
-// The number of the refusal; 0 where the table is laid.
-fn refused(signs: &[u8], count: usize, values: &[u8], next: &[usize]) -> u8 {
-    match lay::<Y>(signs, count, values, next) {
-        Ok(_) => 0,
-        Err(fault) => fault.number(),
-    }
+    assert_eq!(rt; refused(b"a", 1, &[2], &[0]), Some(5));
+    assert_eq!(rt; refused(b"a", 1, &[1], &[0]), None);
 }

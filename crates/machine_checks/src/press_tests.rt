@@ -1,6 +1,5 @@
 use crate::counter::Counter;
 use automata::arrow::Arrow;
-use automata::faults::SignFault;
 use automata::signs::Signs;
 use drafts::draft::Draft;
 use kinds::marks::M;
@@ -25,8 +24,13 @@ use views::states::Reached;
 use views::table_machine::TableMachine;
 
 // Whether `press` prints this of a text.
-fn prints(rt: &impl Abort, heap: Global, text: &[u8], told: &[u8], note: &str) -> Result<(), Fail> {
-    let out = pressed(heap, text)?;
+fn prints(
+    rt: &(impl Abort + Alloc<A = Global>),
+    text: &[u8],
+    told: &[u8],
+    note: &str,
+) -> Result<(), Fail> {
+    let out = pressed(rt.alloc(), text)?;
     assert!(rt; out.as_slice() == told, "{note}");
     Ok(())
 }
@@ -35,35 +39,30 @@ fn prints(rt: &impl Abort, heap: Global, text: &[u8], told: &[u8], note: &str) -
 fn tables_of_small_drafts(rt: HostRuntime) -> Result<(), Fail> {
     prints(
         &rt,
-        rt.alloc(),
         b"D\tY\tab\n",
         b"T\tY\tab\t1\n0\t0\t0\t0\nV\t1\tA\t-\t1\n",
         "no state",
     )?;
     prints(
         &rt,
-        rt.alloc(),
         b"D\tR\tab\nS\t0\nS\t3\nS\t0\nS\t7\nE\t0\nL\t0\ta\t1\nL\t1\ta\t1\nL\t0\tb\t2\nL\t2\ta\t3\nL\t3\ta\t3\n",
         b"T\tR\tab\t5\n0\t0\t1\t2\n1\t3\t1\t3\n2\t0\t4\t3\n3\t0\t3\t3\n4\t7\t4\t3\nV\t4\tA\t-\t5\n",
         "two values that both accept stay apart",
     )?;
     prints(
         &rt,
-        rt.alloc(),
         b"D\tY\tab\nS\t0\nS\t1\nS\t0\nS\t1\nE\t0\nL\t0\ta\t1\nL\t1\ta\t1\nL\t0\tb\t2\nL\t2\ta\t3\nL\t3\ta\t3\n",
         b"T\tY\tab\t4\n0\t0\t1\t2\n1\t1\t1\t3\n2\t0\t1\t3\n3\t0\t3\t3\nV\t4\tA\t-\t5\n",
         "one value joins them",
     )?;
     prints(
         &rt,
-        rt.alloc(),
         b"D\tM\tab\nS\t1\nS\t2\nE\t0\nE\t1\nL\t0\ta\t0\nL\t1\ta\t1\nL\t1\tb\t1\n",
         b"T\tM\tab\t2\n0\t3\t0\t1\n1\t2\t1\t1\nV\t2\tA\t-\t2\n",
         "the join of both entry states",
     )?;
     prints(
         &rt,
-        rt.alloc(),
         b"D\tY\tab\nS\t1\n",
         b"T\tY\tab\t1\n0\t0\t0\t0\nV\t2\tN\t0\t1\n",
         "no entry",
@@ -72,154 +71,135 @@ fn tables_of_small_drafts(rt: HostRuntime) -> Result<(), Fail> {
 
 #[test]
 fn a_text_that_is_no_draft(rt: HostRuntime) -> Result<(), Fail> {
-    prints(&rt, rt.alloc(), b"", b"X\t21\t0\t0\t0\n", "an empty text")?;
+    prints(&rt, b"", b"X\t21\t0\t0\t0\n", "an empty text")?;
     prints(
         &rt,
-        rt.alloc(),
         b"D\tY\tab\nS\t07\n",
         b"X\t24\t2\t2\t3\n",
         "a value with a zero in front",
     )?;
     prints(
         &rt,
-        rt.alloc(),
         b"D\tY\tab\nE\t0\n",
         b"X\t25\t2\t0\t3\n",
         "an entry that is no state",
     )
 }
 
-// Adds the line of an arrow between states below 10.
-fn add_arrow(text: &mut Vec<u8>, from: u8, sign: u8, to: u8) -> Result<(), Fail> {
-    let line = [
-        b'L',
-        b'\t',
-        b'0' + from % 10,
-        b'\t',
-        sign,
-        b'\t',
-        b'0' + to % 10,
-        b'\n',
-    ];
-    text.extend_from_slice(&line)?;
+// Adds the lines of this many states with value 0, one with value 1, and state 0 as the entry.
+fn add_states(text: &mut String, count: u8) -> Result<(), Fail> {
+    for _ in 0..count {
+        writeln!(text, "S\t0")?;
+    }
+    writeln!(text, "S\t1\nE\t0")?;
     Ok(())
 }
 
-// Adds the lines of this many states with value 0, one with value 1, and state 0 as the entry.
-fn add_states(text: &mut Vec<u8>, count: u8) -> Result<(), Fail> {
-    for _ in 0..count {
-        text.extend_from_slice(b"S\t0\n")?;
-    }
-    text.extend_from_slice(b"S\t1\nE\t0\n")?;
+// Adds the line of an arrow with this sign.
+fn add_arrow(text: &mut String, from: u8, sign: char, to: u8) -> Result<(), Fail> {
+    writeln!(text, "L\t{from}\t{sign}\t{to}")?;
     Ok(())
+}
+
+// Adds the lines of the arrows with either sign.
+fn add_arrows(text: &mut String, from: u8, to: u8) -> Result<(), Fail> {
+    add_arrow(text, from, 'a', to)?;
+    add_arrow(text, from, 'b', to)
 }
 
 // The draft of the words whose letter `n` from the end is a.
-fn from_end(heap: Global, n: u8) -> Result<Vec<u8>, Fail> {
-    let mut text = b"D\tY\tab\n".to_vec(heap)?;
+fn from_end(heap: Global, n: u8) -> Result<String, Fail> {
+    let mut text = format!(in heap; "D\tY\tab\n")?;
     add_states(&mut text, n)?;
-    add_arrow(&mut text, 0, b'a', 0)?;
-    add_arrow(&mut text, 0, b'b', 0)?;
-    add_arrow(&mut text, 0, b'a', 1)?;
+    add_arrows(&mut text, 0, 0)?;
+    add_arrow(&mut text, 0, 'a', 1)?;
     for p in 1..n {
-        add_arrow(&mut text, p, b'a', p + 1)?;
-        add_arrow(&mut text, p, b'b', p + 1)?;
+        add_arrows(&mut text, p, p + 1)?;
     }
     Ok(text)
 }
 
 // The draft of the words whose letter `n` from the front is a.
-fn from_front(heap: Global, n: u8) -> Result<Vec<u8>, Fail> {
-    let mut text = b"D\tY\tab\n".to_vec(heap)?;
+fn from_front(heap: Global, n: u8) -> Result<String, Fail> {
+    let mut text = format!(in heap; "D\tY\tab\n")?;
     add_states(&mut text, n)?;
     for p in 1..n {
-        add_arrow(&mut text, p - 1, b'a', p)?;
-        add_arrow(&mut text, p - 1, b'b', p)?;
+        add_arrows(&mut text, p - 1, p)?;
     }
-    add_arrow(&mut text, n.saturating_sub(1), b'a', n)?;
-    add_arrow(&mut text, n, b'a', n)?;
-    add_arrow(&mut text, n, b'b', n)?;
+    add_arrow(&mut text, n.saturating_sub(1), 'a', n)?;
+    add_arrows(&mut text, n, n)?;
     Ok(text)
 }
 
-// How many states the one-way build of a draft of kind Y has.
-fn forward_count(text: &[u8]) -> Result<Option<usize>, Fail> {
-    let AnyDraft::OfY(draft) = read_draft(text)? else {
-        return Ok(None);
-    };
-    let mut sets = [Reached::default(); 128];
+// How many states the one-way build of a draft has.
+fn forward_count(draft: &Draft<Y>) -> Option<usize> {
+    let mut sets = [Reached::blank(); 128];
     let mut table = Table::<Y>::blank(draft.automaton().sign_list());
-    match once(&draft, &mut table, &mut Roll::fresh(&mut sets)) {
-        Ok(()) => Ok(Some(table.grid().state_count())),
-        Err(_) => Ok(None),
-    }
+    once(draft, &mut table, &mut Roll::fresh(&mut sets))
+        .ok()
+        .map(|()| table.grid().state_count())
 }
 
 #[test]
 fn tables_at_their_edge(rt: HostRuntime) -> Result<(), Fail> {
     let seven = from_end(rt.alloc(), 7)?;
-    let out = pressed(rt.alloc(), seven.as_slice())?;
+    let out = pressed(rt.alloc(), seven.as_bytes())?;
     assert!(rt; out.as_slice().starts_with(b"T\tY\tab\t128\n"));
     assert!(rt; out.as_slice().ends_with(b"V\t9\tA\t-\t128\n"));
     let eight = from_end(rt.alloc(), 8)?;
     prints(
         &rt,
-        rt.alloc(),
-        eight.as_slice(),
+        eight.as_bytes(),
         b"X\t11\t0\t0\t0\n",
         "256 states of the last table",
     )?;
     let front = from_front(rt.alloc(), 7)?;
-    let out = pressed(rt.alloc(), front.as_slice())?;
+    let out = pressed(rt.alloc(), front.as_bytes())?;
     assert!(rt; out.as_slice().starts_with(b"T\tY\tab\t9\n"));
     assert!(rt; out.as_slice().ends_with(b"V\t128\tA\t-\t9\n"));
     let front = from_front(rt.alloc(), 8)?;
     prints(
         &rt,
-        rt.alloc(),
-        front.as_slice(),
+        front.as_bytes(),
         b"X\t10\t0\t0\t0\n",
         "more than 128 states of the backward table",
     )?;
-    assert_eq!(rt;
-        forward_count(front.as_slice())?,
-        Some(10),
-        "the table would be small"
-    );
+    let count = match read_draft(front.as_bytes())? {
+        AnyDraft::OfY(draft) => forward_count(&draft),
+        _ => None,
+    };
+    assert_eq!(rt; count, Some(10), "the table would be small");
     Ok(())
 }
 
 // The answer of a press of a counter, in this many entries for its states and 128 for each other roll.
-fn counted(limit: u64, room: usize) -> Result<Result<usize, PressFault>, SignFault> {
-    let signs = Signs::new(b"ab")?;
+fn counted(signs: Signs, limit: u64, room: usize) -> Result<usize, PressFault> {
     let mut states = [9u64; 200];
     let mut columns = [Colouring::plain(9); 128];
     let mut rows = [Colouring::plain(9); 128];
     let mut first = Table::<Y>::blank(signs);
     let mut back = Table::<Y>::blank(signs);
     let mut last = Table::<Y>::blank(signs);
-    let pressed = press_machine(
+    press_machine(
         &Counter { signs, limit },
         &mut first,
-        &mut Roll::fresh(&mut states[0..room.min(200)]),
+        &mut Roll::fresh(&mut states[..room.min(200)]),
         &mut back,
         &mut Roll::fresh(&mut columns),
         &mut last,
         &mut Roll::fresh(&mut rows),
-    );
-    match pressed {
-        Ok(()) => Ok(Ok(last.grid().state_count())),
-        Err(fault) => Ok(Err(fault)),
-    }
+    )?;
+    Ok(last.grid().state_count())
 }
 
 #[test]
 fn machines_are_pressed(rt: HostRuntime) -> Result<(), Fail> {
-    assert_eq!(rt; counted(2, 200)?, Ok(3));
-    assert_eq!(rt; counted(0, 1)?, Ok(1));
-    assert_eq!(rt; counted(127, 200)?, Ok(128));
-    assert_eq!(rt; counted(128, 200)?, Err(PressFault::First));
-    assert_eq!(rt; counted(2, 2)?, Err(PressFault::First));
+    let signs = Signs::new(b"ab")?;
+    assert_eq!(rt; counted(signs, 2, 200), Ok(3));
+    assert_eq!(rt; counted(signs, 0, 1), Ok(1));
+    assert_eq!(rt; counted(signs, 127, 200), Ok(128));
+    assert_eq!(rt; counted(signs, 128, 200), Err(PressFault::First));
+    assert_eq!(rt; counted(signs, 2, 2), Err(PressFault::First));
     assert_eq!(rt; PressFault::First.number(), 9);
     assert_eq!(rt; PressFault::Backward.number(), 10);
     assert_eq!(rt; PressFault::Last.number(), 11);
@@ -317,45 +297,52 @@ fn told() -> Result<Draft<Y>, Fail> {
     draft.grow(1)?;
     draft.grow(1)?;
     draft.enter(0)?;
-    for (from, letter, to) in [(0, 0, 1), (0, 0, 2), (1, 0, 3), (2, 1, 3), (3, 0, 3), (3, 1, 3)] {
+    for (from, letter, to) in [
+        (0, 0, 1),
+        (0, 0, 2),
+        (1, 0, 3),
+        (2, 1, 3),
+        (3, 0, 3),
+        (3, 1, 3),
+    ] {
         draft.link(Arrow { from, letter, to })?;
     }
     Ok(draft)
 }
 
-// The verdict on one of its states, with this many entries for the backward states.
-fn judged(state: usize, room: usize) -> Result<Result<Verdict, VerdictFault>, Fail> {
-    let draft = told()?;
+// The verdict on a state of a draft, with this many entries for the backward states.
+fn judged(draft: &Draft<Y>, state: usize, room: usize) -> Result<Verdict, VerdictFault> {
     let signs = draft.automaton().sign_list();
     let mut columns = [Colouring::plain(9); 8];
     let mut rows = [Colouring::plain(9); 8];
     let mut back = Table::<Y>::blank(signs);
     let mut last = Table::<Y>::blank(signs);
-    let mut columns_roll = Roll::fresh(&mut columns[0..room.min(8)]);
+    let mut columns_roll = Roll::fresh(&mut columns[..room.min(8)]);
     let mut chart = Roll::fresh(&mut rows);
-    Ok(verdict(
-        &draft,
+    verdict(
+        draft,
         state,
         &mut back,
         &mut columns_roll,
         &mut last,
         &mut chart,
-    ))
+    )
 }
 
 #[test]
 fn verdicts_on_states(rt: HostRuntime) -> Result<(), Fail> {
-    assert_eq!(rt; judged(0, 8)?, Ok(Verdict::Atomic));
-    assert_eq!(rt; judged(1, 8)?, Ok(Verdict::Told { low: 0, high: 2 }));
-    assert_eq!(rt; judged(2, 8)?, Ok(Verdict::Atomic));
-    assert_eq!(rt; judged(4, 8)?, Err(VerdictFault::NoState));
+    let draft = told()?;
+    assert_eq!(rt; judged(&draft, 0, 8), Ok(Verdict::Atomic));
+    assert_eq!(rt; judged(&draft, 1, 8), Ok(Verdict::Told { low: 0, high: 2 }));
+    assert_eq!(rt; judged(&draft, 2, 8), Ok(Verdict::Atomic));
+    assert_eq!(rt; judged(&draft, 4, 8), Err(VerdictFault::NoState));
     assert_eq!(rt;
-        judged(4, 0)?,
+        judged(&draft, 4, 0),
         Err(VerdictFault::NoState),
         "asked before the press"
     );
     assert_eq!(rt;
-        judged(3, 2)?,
+        judged(&draft, 3, 2),
         Err(VerdictFault::Press(PressFault::Backward))
     );
     assert_eq!(rt; VerdictFault::NoState.number(), 3);

@@ -6,6 +6,7 @@ use reports::pressed::pressed;
 use std::io;
 use std::io::{Read, Write};
 
+// As in `tidy`: no contract says what is read and printed, so it may not be a library's public function.
 fn main(rt: HostRuntime) -> io::Result<()> {
     let mut text = Vec::new(rt.alloc());
     rt.stdin().read_to_end(&mut text)?;

@@ -1,4 +1,3 @@
 pub mod Adding
 pub mod Cells
 pub mod Printing
-pub mod Scanning

@@ -1,20 +1,15 @@
-// Bytes added at the end of a text.
-ghost use Rattle.std.specs.Prelude.{◌∷◌, decimal};
+// Written forms added at the end of a text.
 ghost use Rattle.reports.specs.Appending.{Adds};
 
+use fields::written::Written;
 use std::alloc::AllocError;
 
-// Adds the decimal digits of a number.
-pub fn add_number(out: &mut Vec<u8>, number: usize) -> Result<(), AllocError>
-    ensures { Adds out.old.items out.new.items (decimal number) result }
+// Adds the written form of an item.
+pub fn add<T: Written>(out: &mut Vec<u8>, item: &T) -> Result<(), AllocError>
+    ensures { Adds out.old.items out.new.items (T.text item.now) result }
 {
-    out.extend_from_slice(itoa::Buffer::new().format(number).as_bytes())
-}
-
-// Adds a tab and a number.
-pub fn add_field(out: &mut Vec<u8>, number: usize) -> Result<(), AllocError>
-    ensures { Adds out.old.items out.new.items (9 ∷ decimal number) result }
-{
-    out.extend_from_slice(b"\t")?;
-    add_number(out, number)
+    let start = out.len();
+    out.resize(start.saturating_add(item.written_len()), 0)?;
+    let _ = item.write(&mut out[start..]);
+    Ok(())
 }

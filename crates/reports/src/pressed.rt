@@ -6,7 +6,8 @@ ghost use Rattle.texts.specs.Any.{letter_of_draft, model_of};
 ghost use Rattle.texts.specs.Grammar.{kind_of};
 ghost use Rattle.reports.specs.Reports.{OnceCount, DraftPrints, Prints};
 
-use crate::report::report;
+use crate::report::Report;
+use crate::table_text::TableText;
 use drafts::draft::Draft;
 use kinds::kind::Kind;
 use pressing::judging::first_told;
@@ -18,14 +19,15 @@ use std::alloc::{AllocError, Global};
 use tables::table::Table;
 use texts::any::AnyDraft;
 use texts::faults::Refusal;
+use texts::for_any_kind;
 use texts::letters::KindLetter;
 use texts::reading::read_draft;
-use texts::tidying::refusal_text;
+use texts::tidying::{refusal_text, written_text};
 use views::colouring::Colouring;
 use views::states::Reached;
 
 // How many entries each roll has.
-const ROOM: usize = 128;
+pub const ROOM: usize = 128;
 
 // How many states the one-way build of a draft has, where these entries have room for it.
 fn once_count<K: Kind>(draft: &Draft<K>, sets: &mut [Reached]) -> Option<usize>
@@ -33,10 +35,8 @@ fn once_count<K: Kind>(draft: &Draft<K>, sets: &mut [Reached]) -> Option<usize>
 {
     let mut table = Table::<K>::blank(draft.automaton().sign_list());
     let mut roll = Roll::fresh(sets);
-    match once(draft, &mut table, &mut roll) {
-        Ok(()) => Some(table.grid().state_count()),
-        Err(_) => None,
-    }
+    once(draft, &mut table, &mut roll).ok()?;
+    Some(table.grid().state_count())
 }
 
 // What is printed of a draft of any kind, under the letter of its kind, pressed and built in these entries.
@@ -60,16 +60,16 @@ fn press_in<K: Kind>(
     let mut chart = Roll::fresh(chart);
     match press_draft(draft, &mut back, &mut columns, &mut last, &mut chart) {
         Ok(()) => {
-            let told = first_told::<K>(&columns, &chart, automaton.state_count());
-            let onces = once_count(draft, sets);
-            report(
-                heap,
-                letter,
-                last.grid(),
-                back.grid().state_count(),
-                told,
-                onces,
-            )
+            let report = Report {
+                table: TableText {
+                    letter,
+                    grid: last.grid(),
+                },
+                backward_count: back.grid().state_count(),
+                not_atomic: first_told::<K>(&columns, &chart, automaton.state_count()),
+                forward_count: once_count(draft, sets),
+            };
+            written_text(heap, &report)
         }
         Err(fault) => refusal_text(heap, Refusal::plain(fault.number())),
     }
@@ -100,11 +100,8 @@ pub fn press_text<K: Kind>(
 pub fn press_any(heap: Global, draft: &AnyDraft) -> Result<Vec<u8>, AllocError>
     ensures { IfOk result (λ v. DraftPrints (kind_of (letter_of_draft draft.now)) (letter_of_draft draft.now) (model_of draft.now) 128 v.items) }
 {
-    match draft {
-        AnyDraft::OfY(draft) => press_text(heap, KindLetter::Y, draft),
-        AnyDraft::OfR(draft) => press_text(heap, KindLetter::R, draft),
-        AnyDraft::OfM(draft) => press_text(heap, KindLetter::M, draft),
-    }
+    let letter = draft.letter();
+    for_any_kind!(draft, draft => press_text(heap, letter, draft))
 }
 
 // What `press` prints of a text.

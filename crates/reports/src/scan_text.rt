@@ -1,8 +1,12 @@
 // What `scan` prints of an entry: its value, and its longest front part.
-ghost use Rattle.reports.specs.Appending.{Adds};
+ghost use Rattle.std.specs.Prelude.{◌≡◌, ◌∷◌, ◌++◌, []};
+ghost use Rattle.fields.specs.Writing.{Puts};
+ghost use Rattle.lookup.specs.Lookups.{Valued, Longest};
 ghost use Rattle.reports.specs.Scans.{code_text, no_sign_text, value_text, part_text, longest_text, ScanAdds};
 
-use crate::appending::add_field;
+use crate::appending::add;
+use fields::writing::Writer;
+use fields::written::{Field, Written};
 use kinds::kind::Kind;
 use lookup::faults::{LongestFault, ValueFault};
 use lookup::longest::longest;
@@ -10,51 +14,79 @@ use lookup::value::value;
 use std::alloc::AllocError;
 use tables::table::Table;
 
-// Adds the fields of a value: V, the value and -.
-fn add_code(out: &mut Vec<u8>, code: u8) -> Result<(), AllocError>
-    ensures { Adds out.old.items out.new.items (code_text code) result }
-{
-    out.extend_from_slice(b"V")?;
-    add_field(out, usize::from(code))?;
-    out.extend_from_slice(b"\t-")
+// What is read of an entry: its value, and its longest front part with the value of that.
+#[derive(Clone, Copy)]
+struct Scan<'t> {
+    value: Result<u8, ValueFault>,
+    longest: Result<(&'t [u8], u8), LongestFault>,
 }
 
-// Adds the fields of a byte that is no sign: X, the number of the refusal and the place.
-fn add_no_sign(out: &mut Vec<u8>, place: usize) -> Result<(), AllocError>
-    ensures { Adds out.old.items out.new.items (no_sign_text place) result }
-{
-    out.extend_from_slice(b"X\t12")?;
-    add_field(out, place)
-}
-
-fn add_value(out: &mut Vec<u8>, value: Result<u8, ValueFault>) -> Result<(), AllocError>
-    ensures { Adds out.old.items out.new.items (value_text value) result }
-{
-    match value {
-        Ok(code) => add_code(out, code),
-        Err(ValueFault::NoSign { place }) => add_no_sign(out, place),
+impl<'t> Scan<'t> {
+    // What is read of an entry through this table.
+    fn of<K: Kind>(table: &Table<K>, entry: &'t [u8]) -> Scan<'t>
+        ensures value { Valued K.model table.now.grid entry.now result.value }
+        ensures longest { Longest K.model table.now.grid entry.entry result.longest }
+    {
+        Scan {
+            value: value(table, entry),
+            longest: longest(table, entry),
+        }
     }
 }
 
-// Adds the fields of a longest front part: L, the part and its value.
-fn add_part(out: &mut Vec<u8>, part: &[u8], code: u8) -> Result<(), AllocError>
-    ensures { Adds out.old.items out.new.items (part_text part.now code) result }
+// Puts the fields of a value: V, the value and -.
+fn put_code(code: u8, out: &mut Writer<'_>)
+    ensures { Puts out.old out.new (code_text code) }
 {
-    out.extend_from_slice(b"L\t")?;
-    out.extend_from_slice(part)?;
-    add_field(out, usize::from(code))
+    out.put(b"V");
+    Field(usize::from(code)).put(out);
+    out.put(b"\t-");
+}
+
+// Puts the fields of a byte that is no sign: X, the number of the refusal and the place.
+fn put_no_sign(place: usize, out: &mut Writer<'_>)
+    ensures { Puts out.old out.new (no_sign_text place) }
+{
+    out.put(b"X\t12");
+    Field(place).put(out);
+}
+
+fn put_value(value: Result<u8, ValueFault>, out: &mut Writer<'_>)
+    ensures { Puts out.old out.new (value_text value) }
+{
+    match value {
+        Ok(code) => put_code(code, out),
+        Err(ValueFault::NoSign { place }) => put_no_sign(place, out),
+    }
+}
+
+// Puts the fields of a longest front part: L, the part and its value.
+fn put_part(part: &[u8], code: u8, out: &mut Writer<'_>)
+    ensures { Puts out.old out.new (part_text part.now code) }
+{
+    out.put(b"L\t");
+    out.put(part);
+    Field(usize::from(code)).put(out);
 }
 
 // The same, or X, the number of the refusal and - where there is none.
-fn add_longest(
-    out: &mut Vec<u8>,
-    longest: Result<(&[u8], u8), LongestFault>,
-) -> Result<(), AllocError>
-    ensures { Adds out.old.items out.new.items (longest_text longest.entry) result }
+fn put_longest(longest: Result<(&[u8], u8), LongestFault>, out: &mut Writer<'_>)
+    ensures { Puts out.old out.new (longest_text longest.entry) }
 {
     match longest {
-        Ok((part, code)) => add_part(out, part, code),
-        Err(_) => out.extend_from_slice(b"X\t13\t-"),
+        Ok((part, code)) => put_part(part, code, out),
+        Err(_) => out.put(b"X\t13\t-"),
+    }
+}
+
+impl Written for Scan<'_> {
+    ghost text = { λ s. value_text s.value ++ (9 ∷ (longest_text s.longest ++ 10 ∷ [])) };
+
+    fn put(&self, out: &mut Writer<'_>) {
+        put_value(self.value, out);
+        out.put(b"\t");
+        put_longest(self.longest, out);
+        out.put(b"\n");
     }
 }
 
@@ -66,8 +98,5 @@ pub fn add_scan<K: Kind>(
 ) -> Result<(), AllocError>
     ensures { ScanAdds K.model table.now.grid entry.entry out.old.items out.new.items result }
 {
-    add_value(out, value(table, entry))?;
-    out.extend_from_slice(b"\t")?;
-    add_longest(out, longest(table, entry))?;
-    out.extend_from_slice(b"\n")
+    add(out, &Scan::of(table, entry))
 }

@@ -1,68 +1,77 @@
 // The text of a table, line by line.
-ghost use Rattle.std.specs.Prelude.{◌<◌, length, decimal};
-ghost use Rattle.fields.specs.Pieces.{behind, ended};
+ghost use Rattle.std.specs.Prelude.{◌<◌, ◌∷◌, length, decimal};
+ghost use Rattle.fields.specs.Pieces.{behind};
+ghost use Rattle.fields.specs.Writing.{Puts};
 ghost use Rattle.automata.specs.Shown.{sign_bytes};
 ghost use Rattle.drafts.specs.Words.{tabulate};
 ghost use Rattle.machines.specs.Tables.{count, next};
 ghost use Rattle.tables.specs.Shown.{shown};
-ghost use Rattle.texts.specs.Grammar.{line_of};
 ghost use Rattle.texts.specs.Writing.{ended_line};
-ghost use Rattle.reports.specs.Appending.{Adds};
 ghost use Rattle.reports.specs.Reports.{head_fields, row_fields, text_of_table};
 
-use crate::appending::{add_field, add_number};
-use std::alloc::AllocError;
+use fields::writing::Writer;
+use fields::written::{Field, Number, Written};
 use tables::grid::Grid;
 use texts::letters::KindLetter;
 
-// Adds the first line.
-fn add_head(out: &mut Vec<u8>, letter: KindLetter, grid: &Grid) -> Result<(), AllocError>
-    ensures { Adds out.old.items out.new.items (ended_line (head_fields letter (sign_bytes grid.now.signs) (shown grid.now))) result }
-{
-    out.extend_from_slice(&[b'T', b'\t', letter.byte(), b'\t'])?;
-    out.extend_from_slice(grid.signs().as_slice())?;
-    add_field(out, grid.state_count())?;
-    out.extend_from_slice(b"\n")
+// A table as it is printed, under the letter of its kind.
+#[derive(Clone, Copy)]
+pub struct TableText<'a> {
+    pub letter: KindLetter,
+    pub grid: &'a Grid,
 }
 
-// Adds the next states of a state by letter, each behind a tab.
-fn add_cells(out: &mut Vec<u8>, grid: &Grid, state: usize) -> Result<(), AllocError>
+// Puts the first line.
+fn put_head(letter: KindLetter, grid: &Grid, out: &mut Writer<'_>)
+    ensures { Puts out.old out.new (ended_line (head_fields letter (sign_bytes grid.now.signs) (shown grid.now))) }
+{
+    out.put(&[b'T', b'\t', letter.byte(), b'\t']);
+    out.put(grid.signs().as_slice());
+    Field(grid.state_count()).put(out);
+    out.put(b"\n");
+}
+
+// Puts the next state by a letter, behind a tab.
+fn put_cell(grid: &Grid, state: usize, letter: usize, out: &mut Writer<'_>)
+    requires state { state < count (shown grid.now) }
+    requires letter { letter < length (sign_bytes grid.now.signs) }
+    ensures { Puts out.old out.new (9 ∷ decimal (next (length (sign_bytes grid.now.signs)) (shown grid.now) state letter)) }
+{
+    if let Some(next) = grid.next(state, letter) {
+        Field(next).put(out);
+    }
+}
+
+// Puts the next states of a state by letter.
+fn put_cells(grid: &Grid, state: usize, out: &mut Writer<'_>)
     requires { state < count (shown grid.now) }
-    ensures { Adds out.old.items out.new.items (behind 9 (tabulate (length (sign_bytes grid.now.signs)) (λ a. decimal (next (length (sign_bytes grid.now.signs)) (shown grid.now) state a)))) result }
+    ensures { Puts out.old out.new (behind 9 (tabulate (length (sign_bytes grid.now.signs)) (λ a. decimal (next (length (sign_bytes grid.now.signs)) (shown grid.now) state a)))) }
 {
     for letter in 0..grid.signs().len() {
-        let next = grid.next(state, letter).unwrap_or(0);
-        add_field(out, next)?;
+        put_cell(grid, state, letter, out);
     }
-    Ok(())
 }
 
-// Adds the line of a state.
-fn add_row(out: &mut Vec<u8>, grid: &Grid, state: usize) -> Result<(), AllocError>
+// Puts the line of a state.
+fn put_row(grid: &Grid, state: usize, out: &mut Writer<'_>)
     requires { state < count (shown grid.now) }
-    ensures { Adds out.old.items out.new.items (ended_line (row_fields (length (sign_bytes grid.now.signs)) (shown grid.now) state)) result }
+    ensures { Puts out.old out.new (ended_line (row_fields (length (sign_bytes grid.now.signs)) (shown grid.now) state)) }
 {
-    let value = grid.value(state).unwrap_or(0);
-    add_number(out, state)?;
-    add_field(out, usize::from(value))?;
-    add_cells(out, grid, state)?;
-    out.extend_from_slice(b"\n")
-}
-
-// Adds the lines of the states, by number.
-fn add_rows(out: &mut Vec<u8>, grid: &Grid) -> Result<(), AllocError>
-    ensures { Adds out.old.items out.new.items (ended 10 (tabulate (count (shown grid.now)) (λ i. line_of (row_fields (length (sign_bytes grid.now.signs)) (shown grid.now) i)))) result }
-{
-    for state in 0..grid.state_count() {
-        add_row(out, grid, state)?;
+    if let Some(value) = grid.value(state) {
+        Number(state).put(out);
+        Field(usize::from(value)).put(out);
+        put_cells(grid, state, out);
+        out.put(b"\n");
     }
-    Ok(())
 }
 
-// Adds the text of a table.
-pub fn add_table(out: &mut Vec<u8>, letter: KindLetter, grid: &Grid) -> Result<(), AllocError>
-    ensures { Adds out.old.items out.new.items (text_of_table letter (sign_bytes grid.now.signs) (shown grid.now)) result }
-{
-    add_head(out, letter, grid)?;
-    add_rows(out, grid)
+impl Written for TableText<'_> {
+    ghost text = { λ t. text_of_table t.letter (sign_bytes t.grid.now.signs) (shown t.grid.now) };
+
+    fn put(&self, out: &mut Writer<'_>) {
+        put_head(self.letter, self.grid, out);
+        for state in 0..self.grid.state_count() {
+            put_row(self.grid, state, out);
+        }
+    }
 }

@@ -2,25 +2,24 @@
 // input, one to a line, and prints a line for each: its value, and its longest front part with a value.
 #![tactic(auto)]
 
-use anyhow::anyhow;
+use anyhow::Context;
 use drafts::draft::Draft;
 use kinds::kind::Kind;
 use pressing::press::press_draft;
+use reports::pressed::ROOM;
 use reports::scan_text::add_scan;
 use rolls::roll::Roll;
 use rolls::state::State;
 use std::io::{BufRead, BufReader, Write};
 use std::{env, fs};
 use tables::table::Table;
-use texts::any::AnyDraft;
 use texts::faults::Refusal;
+use texts::for_any_kind;
 use texts::reading::read_draft;
 use texts::tidying::refusal_text;
 use views::colouring::Colouring;
 
-// How many entries each roll has.
-const ROOM: usize = 128;
-
+// In `walk` too: no contract says what is printed, so it may not be a library's public function.
 fn print_refusal(rt: &HostRuntime, refusal: Refusal) -> anyhow::Result<()> {
     let line = refusal_text(rt.alloc(), refusal)?;
     rt.stdout().write_all(line.as_slice())?;
@@ -58,23 +57,13 @@ fn scan<K: Kind>(rt: &HostRuntime, draft: &Draft<K>) -> anyhow::Result<()> {
     }
 }
 
-fn scan_any(rt: &HostRuntime, draft: AnyDraft) -> anyhow::Result<()> {
-    match draft {
-        AnyDraft::OfY(draft) => scan(rt, &draft),
-        AnyDraft::OfR(draft) => scan(rt, &draft),
-        AnyDraft::OfM(draft) => scan(rt, &draft),
-    }
-}
-
 fn main(rt: HostRuntime) -> anyhow::Result<()> {
-    let mut args = env::args(&rt)?;
-    args.next();
-    let Some(path) = args.next() else {
-        return Err(anyhow!("the name of a draft file is missing"));
-    };
+    let path = env::args(&rt)?
+        .nth(1)
+        .context("the name of a draft file is missing")?;
     let text = fs::read(&rt, path.as_str())?;
     match read_draft(text.as_slice()) {
-        Ok(draft) => scan_any(&rt, draft),
+        Ok(draft) => for_any_kind!(draft, draft => scan(&rt, &draft)),
         Err(fault) => print_refusal(&rt, fault.refusal()),
     }
 }

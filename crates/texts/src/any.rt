@@ -16,8 +16,20 @@ pub enum AnyDraft {
     OfM(Draft<M>),
 }
 
-// One arm for each kind: a trait of the kinds that have a letter would need as many impls for these two.
+// Evaluates the same expression for the draft of whichever kind is there.
+#[macro_export]
+macro_rules! for_any_kind {
+    ($value:expr, $draft:pat => $result:expr) => {
+        match $value {
+            $crate::any::AnyDraft::OfY($draft) => $result,
+            $crate::any::AnyDraft::OfR($draft) => $result,
+            $crate::any::AnyDraft::OfM($draft) => $result,
+        }
+    };
+}
+
 impl AnyDraft {
+    // One arm for each kind: a trait of the kinds that have a letter would need as many impls.
     pub fn letter(&self) -> KindLetter
         ensures { result ≡ letter_of_draft self.now }
     {
@@ -32,10 +44,6 @@ impl AnyDraft {
     pub fn automaton(&self) -> &Automaton
         ensures { result.now ≡ held_by self.now }
     {
-        match self {
-            AnyDraft::OfY(draft) => draft.automaton(),
-            AnyDraft::OfR(draft) => draft.automaton(),
-            AnyDraft::OfM(draft) => draft.automaton(),
-        }
+        for_any_kind!(self, draft => draft.automaton())
     }
 }

@@ -16,7 +16,7 @@ use automata::arrow::Arrow;
 use automata::automaton::Automaton;
 use fields::writing::Writer;
 pub use fields::written::WriteFault;
-use fields::written::Written;
+use fields::written::{Field, Written};
 
 // Puts the first line: D, the kind letter and the signs.
 fn put_head(letter: KindLetter, signs: &[u8], out: &mut Writer<'_>)
@@ -27,31 +27,23 @@ fn put_head(letter: KindLetter, signs: &[u8], out: &mut Writer<'_>)
     out.put(b"\n");
 }
 
-// Puts a tab and a number.
-fn put_field(number: u64, out: &mut Writer<'_>)
-    ensures { Puts out.old out.new (9 ∷ decimal number) }
-{
-    out.put(b"\t");
-    out.put_number(number);
-}
-
 // Puts the line of a record letter and a number.
-fn put_numbered(record: u8, number: u64, out: &mut Writer<'_>)
+fn put_numbered(record: u8, number: usize, out: &mut Writer<'_>)
     ensures { Puts out.old out.new (ended_line ((«record» ∷ []) ∷ decimal number ∷ [])) }
 {
     out.put(&[record]);
-    put_field(number, out);
+    Field(number).put(out);
     out.put(b"\n");
 }
 
 // Puts the line of an arrow: L, a state, a sign and a state.
-fn put_arrow_line(from: u64, sign: u8, to: u64, out: &mut Writer<'_>)
+fn put_arrow_line(from: usize, sign: u8, to: usize, out: &mut Writer<'_>)
     ensures { Puts out.old out.new (ended_line ((76 ∷ []) ∷ decimal from ∷ (sign ∷ []) ∷ decimal to ∷ [])) }
 {
     out.put(b"L");
-    put_field(from, out);
+    Field(from).put(out);
     out.put(&[b'\t', sign]);
-    put_field(to, out);
+    Field(to).put(out);
     out.put(b"\n");
 }
 
@@ -61,7 +53,7 @@ fn put_state(automaton: &Automaton, state: usize, out: &mut Writer<'_>)
     ensures { Puts out.old out.new (call_lines (shown automaton.now).signs (grow_call (shown automaton.now) state)) }
 {
     if let Some(code) = automaton.code(state) {
-        put_numbered(b'S', u64::from(code), out);
+        put_numbered(b'S', usize::from(code), out);
     }
 }
 
@@ -89,7 +81,7 @@ fn put_entry(automaton: &Automaton, state: usize, out: &mut Writer<'_>)
     ensures { Puts out.old out.new (call_lines (shown automaton.now).signs (enter_call (shown automaton.now) state)) }
 {
     if automaton.is_entry(state) {
-        put_numbered(b'E', state as u64, out);
+        put_numbered(b'E', state, out);
     }
 }
 
@@ -108,7 +100,7 @@ fn put_arrow(automaton: &Automaton, from: usize, letter: usize, to: usize, out: 
     ensures { Puts out.old out.new (call_lines (shown automaton.now).signs (link_call (shown automaton.now) from letter to)) }
 {
     if automaton.has_arrow(Arrow { from, letter, to }) {
-        put_arrow_line(from as u64, automaton.signs()[letter], to as u64, out);
+        put_arrow_line(from, automaton.signs()[letter], to, out);
     }
 }
 
@@ -173,10 +165,10 @@ impl Written for Refusal {
 
     fn put(&self, out: &mut Writer<'_>) {
         out.put(b"X");
-        put_field(u64::from(self.number), out);
-        put_field(self.line as u64, out);
-        put_field(u64::from(self.field), out);
-        put_field(u64::from(self.inner), out);
+        Field(usize::from(self.number)).put(out);
+        Field(self.line).put(out);
+        Field(usize::from(self.field)).put(out);
+        Field(usize::from(self.inner)).put(out);
         out.put(b"\n");
     }
 }

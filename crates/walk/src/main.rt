@@ -9,27 +9,28 @@ use machines::machine::Machine;
 use rolls::roll::Roll;
 use rolls::state::State;
 use std::alloc::Global;
-use std::io::Read;
+use std::io::{Read, Write};
 use tables::grid::Grid;
 use tables::grid::building::build;
 use tables::table::Table;
-use texts::any::AnyDraft;
 use texts::faults::Refusal;
+use texts::for_any_kind;
 use texts::reading::read_draft;
+use texts::tidying::refusal_text;
 use views::forward_draft::ForwardDraft;
 use views::states::Reached;
 
 // The first cell that holds a state, row by row: the row and the sign.
 fn first_cell(grid: &Grid, state: usize) -> Option<(usize, u8)> {
     let signs = grid.signs();
-    for row in 0..grid.state_count() {
-        for (letter, sign) in signs.as_slice().iter().enumerate() {
-            if grid.next(row, letter) == Some(state) {
-                return Some((row, *sign));
-            }
-        }
-    }
-    None
+    (0..grid.state_count()).find_map(|row| {
+        signs
+            .as_slice()
+            .iter()
+            .enumerate()
+            .find(|(letter, _)| grid.next(row, *letter) == Some(state))
+            .map(|(_, sign)| (row, *sign))
+    })
 }
 
 // The first word that leads to a state, from those of the states before it.
@@ -42,9 +43,7 @@ fn first_word(
     let mut word = String::new(heap);
     if state > 0 {
         if let Some((row, sign)) = first_cell(grid, state) {
-            if let Some(before) = words.get(row) {
-                word.push_str(before.as_str())?;
-            }
+            word.push_str(words.get(row).map_or("", |before| before.as_str()))?;
             word.push(char::from(sign))?;
         }
     }
@@ -53,14 +52,14 @@ fn first_word(
 
 // One state's line.
 fn print_row(rt: &HostRuntime, grid: &Grid, state: usize, word: &str) -> anyhow::Result<()> {
-    let value = grid.value(state).unwrap_or(0);
     let shown = if word.is_empty() { "-" } else { word };
-    print!(rt; "{state}\t{value}\t{shown}")?;
-    for letter in 0..grid.signs().len() {
-        let next = grid.next(state, letter).unwrap_or(0);
-        print!(rt; "\t{next}")?;
+    if let Some(value) = grid.value(state) {
+        print!(rt; "{state}\t{value}\t{shown}")?;
+        for next in (0..grid.signs().len()).filter_map(|letter| grid.next(state, letter)) {
+            print!(rt; "\t{next}")?;
+        }
+        println!(rt; "")?;
     }
-    println!(rt; "")?;
     Ok(())
 }
 
@@ -74,12 +73,10 @@ fn print_rows(rt: &HostRuntime, grid: &Grid) -> anyhow::Result<()> {
     Ok(())
 }
 
+// In `scan` too: no contract says what is printed, so it may not be a library's public function.
 fn print_refusal(rt: &HostRuntime, refusal: Refusal) -> anyhow::Result<()> {
-    let number = refusal.number;
-    let line = refusal.line;
-    let field = refusal.field;
-    let inner = refusal.inner;
-    println!(rt; "X\t{number}\t{line}\t{field}\t{inner}")?;
+    let line = refusal_text(rt.alloc(), refusal)?;
+    rt.stdout().write_all(line.as_slice())?;
     Ok(())
 }
 
@@ -90,23 +87,7 @@ fn walk<K: Kind>(rt: &HostRuntime, draft: &Draft<K>) -> anyhow::Result<()> {
     let mut roll = Roll::fresh(entries.as_mut_slice());
     match build(&machine, &mut table, &mut roll) {
         Ok(()) => print_rows(rt, table.grid()),
-        Err(fault) => print_refusal(
-            rt,
-            Refusal {
-                number: fault.number(),
-                line: 0,
-                field: 0,
-                inner: 0,
-            },
-        ),
-    }
-}
-
-fn walk_any(rt: &HostRuntime, draft: AnyDraft) -> anyhow::Result<()> {
-    match draft {
-        AnyDraft::OfY(draft) => walk(rt, &draft),
-        AnyDraft::OfR(draft) => walk(rt, &draft),
-        AnyDraft::OfM(draft) => walk(rt, &draft),
+        Err(fault) => print_refusal(rt, Refusal::plain(fault.number())),
     }
 }
 
@@ -114,7 +95,7 @@ fn main(rt: HostRuntime) -> anyhow::Result<()> {
     let mut text = Vec::new(rt.alloc());
     rt.stdin().read_to_end(&mut text)?;
     match read_draft(text.as_slice()) {
-        Ok(draft) => walk_any(&rt, draft),
+        Ok(draft) => for_any_kind!(draft, draft => walk(&rt, &draft)),
         Err(fault) => print_refusal(&rt, fault.refusal()),
     }
 }

@@ -30,23 +30,23 @@ returns-in-Ok g c =
     let q = c.in-Ok.ensures in
     let columns = q.columns_kept.long ∙ (ap length c.fresh-columns.ensures.items ∙ (length-replicate (length c.args.columns.now) (plain 0) ∙ c.requires.columns)) in
     let chart = q.chart_kept.long ∙ (ap length c.fresh-chart.ensures.items ∙ (length-replicate (length c.args.chart.now) (plain 0) ∙ c.requires.chart)) in
-    let told = c.first_told-told.result in
-    let onces = c.once_count-onces.result in
-    let states = c.state_count.ensures ∙ ap (λ (a : Automaton). size (automata.shown a)) c.automaton-automaton.ensures in
-    let first = subst (λ (n : ℕ). FirstTold K back.entries back.len last.entries last.len n told) states c.first_told-told.ensures in
-    let backs = c.state_count-in-Ok.ensures ∙ (ap (λ (t : Grid). count (shown t)) c.grid-in-Ok.ensures ∙ shown-count c.press_draft.new.back.grid) in
+    let told = c.first_told.result in
+    let onces = c.once_count.result in
+    let states = c.state_count-in-Ok.ensures ∙ ap (λ (a : Automaton). size (automata.shown a)) c.automaton-automaton.ensures in
+    let first = subst (λ (n : ℕ). FirstTold K back.entries back.len last.entries last.len n told) states c.first_told.ensures in
+    let backs = c.state_count.ensures ∙ (ap (λ (t : Grid). count (shown t)) c.grid-in-Ok.ensures ∙ shown-count c.press_draft.new.back.grid) in
     draft-prints K c.args.letter (drawn d) ok back last (length c.args.sets.now) columns chart (Ok tt) q.ended vec_items
-    (λ v. vec_items v ≡ report_text c.args.letter (sign_bytes c.grid.result.now.signs) (shown c.grid.result.now) c.state_count-in-Ok.result told onces)
-    c.report.result
+    (λ v. vec_items v ≡ report_text c.args.letter (sign_bytes c.grid.result.now.signs) (shown c.grid.result.now) c.state_count.result told onces)
+    c.written_text.result
     (λ v e. record {
       told = told;
       first = first;
       means = λ made. told-means K (drawn d) ok back last q.ended made told first;
       onces = onces;
-      once = c.once_count-onces.ensures;
+      once = c.once_count.ensures;
       prints = e ∙ (λ i. report_text c.args.letter (sign_bytes (c.grid.ensures i).signs) (shown (c.grid.ensures i)) (backs i) told onces);
     })
-    c.report.ensures
+    c.written_text.ensures
 
 pub returns-in-Err : goal.returns-in-Err
 returns-in-Err g c =
