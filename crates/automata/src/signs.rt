@@ -6,6 +6,7 @@ pub mod making;
 // A list of signs: sign i is the byte that stands for letter i. Bytes past the count are 0.
 #[derive(Clone, Copy)]
 pub struct Signs {
+    // no heap: the signs that there are stand first in 16 places
     bytes: [u8; 16],
     count: usize,
     ghost wide: { length bytes ≡ 16 },
