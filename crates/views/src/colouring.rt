@@ -45,6 +45,7 @@ impl Colouring {
     pub fn put(mut self, place: usize, code: u8) -> Colouring
         ensures { result.codes ≡ slice_set self.codes place code }
     {
+        // by get_mut: tried, and the proof did not close
         if place < 128 {
             self.codes[place] = code;
         }

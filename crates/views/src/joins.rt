@@ -13,6 +13,7 @@ pub(crate) fn join_over<K: Kind, S: Fn(usize) -> bool, F: Fn(usize) -> u8>(
     requires codes { F.IsAlwaysCallable code }
     ensures { (s : ℕ → Bool) (f : ℕ → ℕ) → ((p : ℕ) (b : Bool) → S.post test p b → b ≡ s p) → ((p r : ℕ) → F.post code p r → r ≡ f p) → result ≡ join_over K.model count s f }
 {
+    // K::join itself as the last argument: tried, and the proof did not close
     (0..count)
         .filter(|p| test(*p))
         .map(code)
