@@ -133,7 +133,7 @@ fn from_front(heap: Global, n: u8) -> Result<String, Fail> {
 
 // How many states the one-way build of a draft has.
 fn forward_count(draft: &Draft<Y>) -> Option<usize> {
-    let mut sets = [Reached::blank(); 128];
+    let mut sets = [Reached::default(); 128];
     let mut table = Table::<Y>::blank(draft.automaton().sign_list());
     once(draft, &mut table, &mut Roll::fresh(&mut sets))
         .ok()
