@@ -15,8 +15,7 @@ use views::backward_draft::BackwardDraft;
 use views::backward_table::BackwardTable;
 use views::colouring::Colouring;
 
-// A table and its roll stay two parameters; tried: a struct of both, where no caller's proof gets back what it lent,
-// for the checker follows no entries two structs deep.
+// table and roll stay apart: with a roll inside a struct (tried), no proof of a caller gets back the entries it lent
 // Builds the machine, and then its table as it is read backward.
 fn build_twice<M: Machine>(
     machine: &M,
