@@ -13,7 +13,7 @@ pub enum NumberFault {
 }
 
 impl NumberFault {
-    // The fault's number, from 1 in the order of the variants.
+    // The number by which the refusal is known: a method, since `u8::from` would not say which number it gives.
     pub fn number(self) -> u8
         ensures { result ≡ fault_number self }
     {

@@ -2,6 +2,7 @@ ghost use Rattle.std.specs.Prelude.{◌≡◌, ◌+◌, ◌^◌, ◌<◌, length
 
 // Texts put one after another into a slice that the caller lends.
 // A run of puts over an empty slice measures a text, and the same run over enough room writes it.
+// A slice and a length, since it works in memory that is lent, and without a heap.
 #[derive(Drop)]
 pub struct Writer<'a> {
     out: &'a mut [u8],

@@ -13,7 +13,7 @@ pub enum WriteFault {
 }
 
 impl WriteFault {
-    // The number by which the refusal is known.
+    // The number by which the refusal is known: a method, since `u8::from` would not say which number it gives.
     pub fn number(self) -> u8
         ensures { result ≡ write_fault_number self }
     {
@@ -61,6 +61,7 @@ impl Written for Number {
     ghost text = { λ n. decimal n.0 };
 
     fn put(&self, out: &mut Writer<'_>) {
+        // a cast: std has no From<usize> for u64
         out.put_number(self.0 as u64);
     }
 }

@@ -1,8 +1,8 @@
 -- What a verdict says of a state.
-use Rattle.std.proofs.Common.{◌≡◌, ℕ, ◌+◌, ◌<◌, Some, None, Option, sym, ap, inl, inr, arith}
+use Rattle.std.proofs.Common.{◌≡◌, ℕ, ◌<◌, Some, None, Option, sym, ap, inl, inr, arith}
 use mathlib.Core.HLevel.{dec→stable}
 use native.Mathlib.Decide.{ℕ_discrete}
-use Rattle.std.proofs.lemmas.Bool.{cases_lt, cases_order}
+use Rattle.std.proofs.lemmas.Bool.{cases_order}
 use Rattle.kinds.specs.Kinds.{KindModel}
 use Rattle.automata.specs.Signs.{sign_fault}
 use Rattle.automata.specs.Drafts.{DraftModel, size}

@@ -1,22 +1,19 @@
 -- What the builds of a press come to together.
-use Rattle.std.proofs.Common.{◌≡◌, ℕ, true, false, List, length, is_err, None, Ok, Err, Result, sym, subst}
-use Rattle.std.proofs.lemmas.Bool.{both_ways}
+use Rattle.std.proofs.Common.{◌≡◌, ℕ, length, None, Ok, Err, Result, sym, subst}
 use Rattle.kinds.specs.Kinds.{KindModel}
 use Rattle.automata.specs.Signs.{sign_fault}
 use Rattle.automata.specs.Drafts.{DraftModel}
 use Rattle.automata.specs.Shown.{sign_bytes}
 use Rattle.machines.specs.Models.{MachineModel}
-use Rattle.tables.specs.declared.grid.Grid.{Grid}
-use Rattle.tables.specs.declared.grid.building.BuildFault.{BuildFault}
-use Rattle.tables.specs.Builds.{Accepted, Refused, Ended}
+use Rattle.tables.specs.Builds.{Refused}
 use Rattle.tables.proofs.Filled.{left_wiped, wiped_of}
 use Rattle.views.specs.declared.colouring.Colouring.{Colouring}
 use Rattle.views.specs.Colourings.{plain}
 use Rattle.views.specs.ViewLaws.{DraftViewLaws}
 use Rattle.pressing.specs.declared.faults.PressFault.{PressFault}
 use Rattle.pressing.specs.declared.faults.PressFault.TheVariants.{First, Backward, Last}
-use Rattle.pressing.specs.Pressed.{Left, Holds, Empty, TooMany, reading, TwiceLeft, TwiceFails, TwiceEnded, DraftEnded, MachinePressed, MachineFails, MachineEnded, DraftSays, MachineSays}
-use Rattle.pressing.proofs.Left.{draft-says, machine-says}
+use Rattle.pressing.specs.Pressed.{Left, Holds, Empty, TooMany, reading, TwiceLeft, TwiceFails, DraftEnded, MachinePressed, MachineFails, DraftSays}
+use Rattle.pressing.proofs.Left.{draft-says}
 
 -- a machine of the kind K, whose table is built
 module _ {S : Type 0} (m : MachineModel S) (K : KindModel) (k : m.kind ≡ K) (d : S) (back : Left S) (b : Holds m d back) where

@@ -15,6 +15,7 @@ pub enum PressFault {
 }
 
 impl PressFault {
+    // The number by which the refusal is known: a method, since `u8::from` would not say which number it gives.
     pub fn number(self) -> u8
         ensures { result ≡ press_fault_number self }
     {
@@ -35,6 +36,7 @@ pub enum VerdictFault {
 }
 
 impl VerdictFault {
+    // The number by which the refusal is known: a method, since `u8::from` would not say which number it gives.
     pub fn number(self) -> u8
         ensures { result ≡ verdict_fault_number self }
     {

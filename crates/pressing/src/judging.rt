@@ -14,6 +14,7 @@ pub enum Verdict {
     Told { low: usize, high: usize },
 }
 
+// Columns and chart stay two parameters in what follows: `build_twice` says what was tried.
 // Whether two columns of the chart are equal.
 fn same_column<K: Kind>(chart: &Roll<'_, Colouring>, low: usize, high: usize) -> bool
     ensures { Decides result (SameColumn K.model chart.now.entries.now chart.now.len low high) }

@@ -47,6 +47,7 @@ fn put_cells(grid: &Grid, state: usize, out: &mut Writer<'_>)
     requires { state < count (shown grid.now) }
     ensures { Puts out.old out.new (behind 9 (tabulate (length (sign_bytes grid.now.signs)) (λ a. decimal (next (length (sign_bytes grid.now.signs)) (shown grid.now) state a)))) }
 {
+    // counted: a cell is asked for by its letter
     for letter in 0..grid.signs().len() {
         put_cell(grid, state, letter, out);
     }
@@ -70,6 +71,7 @@ impl Written for TableText<'_> {
 
     fn put(&self, out: &mut Writer<'_>) {
         put_head(self.letter, self.grid, out);
+        // counted: a line begins with the state's number
         for state in 0..self.grid.state_count() {
             put_row(self.grid, state, out);
         }

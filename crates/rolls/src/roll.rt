@@ -5,6 +5,7 @@ use crate::fault::RollFault;
 use crate::state::State;
 
 // Different entries in a slice that the caller lends: the first `len` of them are in use.
+// A slice and a length, since a roll works in memory that is lent, and without a heap.
 #[derive(Drop)]
 pub struct Roll<'a, T> {
     entries: &'a mut [T],

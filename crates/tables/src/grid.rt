@@ -13,6 +13,7 @@ pub mod row;
 
 // The signs, and a row for each of 1 to 128 states. The start is state 0; everything past the count or
 // the signs is 0, so two grids that hold the same are equal.
+// An array and a count, since a table is of fixed size, and without a heap.
 #[derive(Clone, Copy)]
 pub struct Grid {
     signs: Signs,

@@ -43,7 +43,7 @@ pub enum FieldFault {
 }
 
 impl FieldFault {
-    // The number of the cause.
+    // The number by which the refusal is known: a method, since `u8::from` would not say which number it gives.
     pub fn number(self) -> u8
         ensures { result ≡ inner_of self }
     {

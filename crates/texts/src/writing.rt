@@ -95,12 +95,12 @@ fn put_entries(automaton: &Automaton, out: &mut Writer<'_>)
 }
 
 // Puts the line of an arrow, or nothing where there is none.
-fn put_arrow(automaton: &Automaton, from: usize, letter: usize, to: usize, out: &mut Writer<'_>)
-    requires { letter < letters (shown automaton.now) }
-    ensures { Puts out.old out.new (call_lines (shown automaton.now).signs (link_call (shown automaton.now) from letter to)) }
+fn put_arrow(automaton: &Automaton, arrow: Arrow, out: &mut Writer<'_>)
+    requires { arrow.letter < letters (shown automaton.now) }
+    ensures { Puts out.old out.new (call_lines (shown automaton.now).signs (link_call (shown automaton.now) arrow.from arrow.letter arrow.to)) }
 {
-    if automaton.has_arrow(Arrow { from, letter, to }) {
-        put_arrow_line(from, automaton.signs()[letter], to, out);
+    if automaton.has_arrow(arrow) {
+        put_arrow_line(arrow.from, automaton.signs()[arrow.letter], arrow.to, out);
     }
 }
 
@@ -110,7 +110,7 @@ fn put_ends(automaton: &Automaton, from: usize, letter: usize, out: &mut Writer<
     ensures { Puts out.old out.new (call_lines (shown automaton.now).signs (links_by (shown automaton.now) from letter)) }
 {
     put_each(automaton.state_count(), out, |to, out| {
-        put_arrow(automaton, from, letter, to, out)
+        put_arrow(automaton, Arrow { from, letter, to }, out)
     });
 }
 

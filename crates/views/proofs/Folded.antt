@@ -1,5 +1,5 @@
 -- The join of the codes of the states that pass a test, and the union of their sets, as a chain over the states makes them.
-use Rattle.std.proofs.Common.{◌≡◌, ℕ, zero, suc, ◌+◌, ◌<◌, max, Bool, true, false, cond, ◌&&◌, ◌||◌, eqb, sym, refl, ap, ◌∙◌, add-one, arith}
+use Rattle.std.proofs.Common.{◌≡◌, ℕ, zero, suc, ◌+◌, Bool, true, false, cond, ◌&&◌, ◌||◌, sym, refl, ap, ◌∙◌, add-one}
 use Rattle.kinds.specs.Kinds.{KindModel, join}
 use Rattle.automata.specs.declared.sets.StateSet.{StateSet}
 use Rattle.automata.specs.Sets.{has, no_states}
@@ -39,12 +39,3 @@ module _ (s : ℕ → Bool) (ends : ℕ → StateSet) where
       ap (λ k. has (chain either no_states s ends k) q) (sym (add-one n))
       ∙ ap (λ (t : StateSet). has t q) (chain-more either no_states s ends n)
       ∙ united-more n q (chain either no_states s ends n) (s n) (some n (λ p. s p && has (ends p) q)) (has-united n q)
-
--- a bit of a number that has the bits of two
-pub either_bit : (x y : ℕ) → x < 2 → y < 2 → eqb (max x y) 1 ≡ (eqb x 1 || eqb y 1)
-either_bit zero zero l m = refl
-either_bit zero (suc zero) l m = refl
-either_bit (suc zero) zero l m = refl
-either_bit (suc zero) (suc zero) l m = refl
-either_bit x (suc (suc y)) l m = absurd (omega arith)
-either_bit (suc (suc x)) y l m = absurd (omega arith)

@@ -1,5 +1,4 @@
-ghost use Rattle.std.specs.Prelude.{◌≡◌, ℕ, ◌||◌};
-ghost use Rattle.automata.specs.Sets.{has};
+ghost use Rattle.std.specs.Prelude.{◌≡◌};
 ghost use Rattle.automata.specs.Drafts.{size};
 ghost use Rattle.automata.specs.Shown.{shown};
 ghost use Rattle.drafts.specs.Drawn.{drawn};
@@ -23,13 +22,6 @@ pub fn code_at<K: Kind>(automaton: &Automaton, state: usize) -> u8
     automaton.code(state).unwrap_or(K::none())
 }
 
-// The set of what is a member of one or of both.
-fn union(a: StateSet, b: StateSet) -> StateSet
-    ensures { (q : ℕ) → has result q ≡ (has a q || has b q) }
-{
-    StateSet::from(u32::from(a) | u32::from(b))
-}
-
 // The set of the ends of all arrows of the letter from the states of the automaton that are in the set.
 fn ends_set(automaton: &Automaton, set: StateSet, letter: usize) -> StateSet
     ensures { result ≡ those (size (shown automaton.now)) (leads_into (shown automaton.now) set letter) }
@@ -37,7 +29,7 @@ fn ends_set(automaton: &Automaton, set: StateSet, letter: usize) -> StateSet
     (0..automaton.state_count())
         .filter(|p| set.has(*p))
         .map(|p| automaton.ends(p, letter))
-        .fold(StateSet::empty(), |all, ends| union(all, ends))
+        .fold(StateSet::empty(), |all, ends| all.union(ends))
 }
 
 // A draft as a machine that reads words forward: its state is the set of the states that the word

@@ -14,6 +14,7 @@ pub struct Reached {
     pub set: StateSet,
 }
 
+// By hand: Default cannot be derived for a set, which has a ghost field.
 impl Default for Reached {
     ghost is_default = { λ x. x ≡ reached_set no_states };
 
@@ -33,6 +34,7 @@ impl State for Reached {
     ghost default_blank = { Prim.search rules };
 }
 
+// By hand: tried to derive, and the proof of `default_blank` did not close for an array of 128.
 impl Default for Colouring {
     ghost is_default = { λ x. x ≡ plain 0 };
 

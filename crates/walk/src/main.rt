@@ -65,6 +65,7 @@ fn print_row(rt: &HostRuntime, grid: &Grid, state: usize, word: &str) -> anyhow:
 
 fn print_rows(rt: &HostRuntime, grid: &Grid) -> anyhow::Result<()> {
     let mut words = Vec::new(rt.alloc());
+    // counted: a line begins with the state's number
     for state in 0..grid.state_count() {
         let word = first_word(rt.alloc(), grid, &words, state)?;
         print_row(rt, grid, state, word.as_str())?;

@@ -1,4 +1,4 @@
-ghost use Rattle.std.specs.Prelude.{◌≡◌, ℕ, ◌<◌, ◌≤◌, if◌then◌else◌, nat_eq};
+ghost use Rattle.std.specs.Prelude.{◌≡◌, ℕ, ◌<◌, ◌≤◌, ◌||◌, if◌then◌else◌, nat_eq};
 ghost use Rattle.automata.specs.Sets.{has, no_states};
 
 use crate::sets::StateSet;
@@ -50,6 +50,15 @@ impl StateSet {
         }
         StateSet {
             bits: self.bits & !(1 << state),
+        }
+    }
+
+    // The set of the members of either.
+    pub fn union(self, other: StateSet) -> StateSet
+        ensures { (q : ℕ) → has result q ≡ (has self q || has other q) }
+    {
+        StateSet {
+            bits: self.bits | other.bits,
         }
     }
 }

@@ -27,6 +27,7 @@ pub enum BuildFault {
 }
 
 impl BuildFault {
+    // The number by which the refusal is known: a method, since `u8::from` would not say which number it gives.
     pub fn number(self) -> u8
         ensures { result ≡ build_fault_number self }
     {

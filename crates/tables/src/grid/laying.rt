@@ -24,6 +24,7 @@ pub enum LayFault {
 }
 
 impl LayFault {
+    // The number by which the refusal is known: a method, since `u8::from` would not say which number it gives.
     pub fn number(self) -> u8
         ensures { result ≡ lay_fault_number self }
     {
@@ -75,6 +76,7 @@ fn lay_row(next: &[usize], letters: usize, i: usize) -> [u8; 16]
 {
     let mut row = [0; 16];
     for (a, state) in next[i * letters..][..letters].iter().enumerate() {
+        // below 128 by what is required: u8::try_from would ask once more
         row[a] = *state as u8;
     }
     row

@@ -1,4 +1,4 @@
-use Rattle.std.proofs.Common.{take, ◌∙◌, rules}
+use Rattle.std.proofs.Common.{take, rules}
 use Rattle.std.proofs.lemmas.Iterator.{cases_from_all, YieldsList-from_slice}
 use borrow.Author.Tests.{tests}
 use Rattle.pressing.proofs.Columns.{Same, columns_decide}

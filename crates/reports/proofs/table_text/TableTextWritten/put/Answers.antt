@@ -1,4 +1,4 @@
-use Rattle.std.proofs.Common.{◌≡◌, ℕ, List, [], ◌∷◌, ◌++◌, length, ap, append_assoc, arith}
+use Rattle.std.proofs.Common.{◌≡◌, ℕ, [], ◌∷◌, length, ap, append_assoc, arith}
 use Rattle.fields.specs.Pieces.{ended}
 use Rattle.automata.specs.Shown.{sign_bytes}
 use Rattle.drafts.specs.Words.{tabulate}

@@ -1,4 +1,4 @@
-use Rattle.std.proofs.Common.{◌++◌, length}
+use Rattle.std.proofs.Common.{length}
 use Rattle.fields.specs.Pieces.{ended}
 use Rattle.fields.specs.Writing.{Puts}
 use Rattle.automata.specs.Shown.{sign_bytes}
