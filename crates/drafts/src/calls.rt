@@ -17,7 +17,7 @@ pub enum Call {
     Rate { state: usize, value: u8 },
 }
 
-// What an accepted call answers.
+// What an accepted call answers. As an option, None would have to mean that the call is done.
 #[derive(Clone, Copy, PartialEq, Eq, Debug)]
 pub enum Answer {
     // the number of the state that was added

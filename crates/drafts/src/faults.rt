@@ -19,7 +19,7 @@ pub enum CallFault {
 }
 
 impl CallFault {
-    // The number by which the refusal is known: a method, since `u8::from` would not say which number it gives.
+    // The number by which the refusal is known. A method: at a call `u8::from(fault)` would not tell that it is one.
     pub fn number(self) -> u8
         ensures { result ≡ call_fault_number self }
     {

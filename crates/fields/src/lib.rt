@@ -1,4 +1,4 @@
-// Byte strings cut at a separator, and decimal numbers read and written.
+// Byte strings cut at a separator, decimal numbers read, and written forms.
 #![tactic(auto)]
 
 pub mod cutting;

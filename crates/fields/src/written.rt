@@ -13,7 +13,7 @@ pub enum WriteFault {
 }
 
 impl WriteFault {
-    // The number by which the refusal is known: a method, since `u8::from` would not say which number it gives.
+    // The number by which the refusal is known. A method: at a call `u8::from(fault)` would not tell that it is one.
     pub fn number(self) -> u8
         ensures { result ≡ write_fault_number self }
     {
@@ -28,6 +28,7 @@ pub trait Written {
     // the bytes that are written
     ghost text: { Self → List ℕ };
 
+    // Puts the text. Where there is no room for all of it, only the count and the length of the slice are said.
     fn put(&self, out: &mut Writer<'_>)
         ensures { Puts out.old out.new (text self.now) };
 

@@ -14,7 +14,6 @@ pub enum Verdict {
     Told { low: usize, high: usize },
 }
 
-// Columns and chart stay two parameters in what follows: `build_twice` says what was tried.
 // Whether two columns of the chart are equal.
 fn same_column<K: Kind>(chart: &Roll<'_, Colouring>, low: usize, high: usize) -> bool
     ensures { Decides result (SameColumn K.model chart.now.entries.now chart.now.len low high) }
@@ -24,6 +23,8 @@ fn same_column<K: Kind>(chart: &Roll<'_, Colouring>, low: usize, high: usize) ->
         .iter()
         .all(|row| row.code::<K>(low) == row.code::<K>(high))
 }
+
+// Columns and chart stay two parameters from here on: `build_twice` says what was tried.
 
 // Whether two backward states tell against a state: their columns are equal and their codes there differ.
 fn tells<K: Kind>(

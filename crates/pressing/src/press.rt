@@ -15,7 +15,8 @@ use views::backward_draft::BackwardDraft;
 use views::backward_table::BackwardTable;
 use views::colouring::Colouring;
 
-// table and roll stay apart: with a roll inside a struct (tried), no proof of a caller gets back the entries it lent
+// Table and roll stay apart: with a roll inside a struct (tried), no proof of a caller gets back the entries it lent.
+
 // Builds the machine, and then its table as it is read backward.
 fn build_twice<M: Machine>(
     machine: &M,

@@ -44,6 +44,7 @@ fn put_code(code: u8, out: &mut Writer<'_>)
 }
 
 // Puts the fields of a byte that is no sign: X, the number of the refusal and the place.
+// The number stands in the text: tried with `fault.number()`, here and below, and the proof did not close.
 fn put_no_sign(place: usize, out: &mut Writer<'_>)
     ensures { Puts out.old out.new (no_sign_text place) }
 {
@@ -51,6 +52,7 @@ fn put_no_sign(place: usize, out: &mut Writer<'_>)
     Field(place).put(out);
 }
 
+// Puts the fields of a value, or of the byte that is no sign.
 fn put_value(value: Result<u8, ValueFault>, out: &mut Writer<'_>)
     ensures { Puts out.old out.new (value_text value) }
 {

@@ -2,3 +2,4 @@ pub mod Differing
 pub mod RollLaws
 pub mod Searching
 pub mod TwoPlaced
+pub mod Filled

@@ -13,7 +13,7 @@ fn lend_any<T: State>(entries: &mut [T], x: T)
     let _ = roll.place(x);
 }
 
-// Two entries placed: an equal one is not added again, and another is refused where one entry only was lent.
+// Two entries placed: an equal one is not added again, and another is refused where only one entry was lent.
 fn lend_two<T: State>(entries: &mut [T], x: T, y: T) -> Result<usize, RollFault>
     ensures equal { x ≡ y → entries.new ≡ slice_set (replicate (length entries.old) T.blank) 0 x }
     ensures apart { (x ≢ y) → entries.new ≡ slice_set (slice_set (replicate (length entries.old) T.blank) 0 x) 1 y }

@@ -18,10 +18,7 @@ pub struct Roll<'a, T> {
 fn wipe<T: State>(entries: &mut [T])
     ensures { entries.new ≡ replicate (length entries.old) T.blank }
 {
-    // The checker covers no fill_with(T::default): the function passed names T in its result alone.
-    for e in entries.iter_mut() {
-        *e = T::default();
-    }
+    entries.fill_with(|| T::default());
 }
 
 impl<'a, T: State> Roll<'a, T> {
@@ -92,6 +89,7 @@ impl<'a, T: State> Roll<'a, T> {
         if let Some(i) = self.position(&x) {
             return Ok(i);
         }
+        // by get_mut and let-else: tried, and the proof did not close
         let n = self.len;
         if n < self.room() {
             self.entries[n] = x;

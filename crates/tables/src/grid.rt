@@ -9,7 +9,7 @@ use automata::signs::Signs;
 pub mod building;
 pub mod laying;
 pub mod making;
-pub mod row;
+mod row;
 
 // The signs, and a row for each of 1 to 128 states. The start is state 0; everything past the count or
 // the signs is 0, so two grids that hold the same are equal.

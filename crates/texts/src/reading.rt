@@ -24,10 +24,7 @@ const LIMIT: usize = 32768;
 fn is_ended(text: &[u8]) -> bool
     ensures { result ≡ line_ended text.now }
 {
-    match text {
-        [.., last] => *last == b'\n',
-        [] => false,
-    }
+    text.ends_with(b"\n")
 }
 
 // Makes the call that a line stands for.
@@ -45,7 +42,7 @@ fn read_lines<K: Kind>(mut draft: Draft<K>, text: &[u8]) -> Result<Draft<K>, Tex
     ensures { LinesRead K.model (drawn draft) text.now result }
 {
     let mut rest = text;
-    // counted by hand: a `for` over the numbers would leave where the text ends by a branch of its own
+    // by `cut`, since the rest of the text goes on to the next line; so the lines are counted by hand
     let mut number = 1;
     while let Some((line, more)) = cut(rest, b'\n') {
         number += 1;
@@ -56,6 +53,7 @@ fn read_lines<K: Kind>(mut draft: Draft<K>, text: &[u8]) -> Result<Draft<K>, Tex
 }
 
 // The draft of this kind with these signs that the lines from the second on draw.
+// One arm for each kind: a kind is a type, and no closure takes one.
 fn read_rest(kind: KindLetter, signs: Signs, rest: &[u8]) -> Result<AnyDraft, TextFault>
     requires { (rest.now ≡ []) ⊎ (line_ended rest.now ≡ true) }
     ensures { RestRead kind (sign_bytes signs) rest.now result }

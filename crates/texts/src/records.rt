@@ -42,7 +42,7 @@ fn last_field(rest: &[u8]) -> Result<&[u8], LineFault>
     }
 }
 
-// The place of a sign among the signs.
+// The place of a sign among the signs. Its own function: tried inside `read_letter`, and the proof did not close.
 fn place(signs: &[u8], sign: u8) -> Option<usize>
     ensures { result ≡ position (λ s. s == sign) signs.now }
 {
@@ -87,6 +87,7 @@ fn read_arrow(signs: &[u8], rest: &[u8]) -> Result<Call, LineFault>
 }
 
 // The call that a line after the first stands for.
+// S and E read a number alike: a function for these two lines would need a longer contract than they are.
 pub fn read_call(signs: &[u8], line: &[u8]) -> Result<Call, LineFault>
     ensures { result ≡ call_of_line signs.now line.now }
 {

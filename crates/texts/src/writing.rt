@@ -57,7 +57,7 @@ fn put_state(automaton: &Automaton, state: usize, out: &mut Writer<'_>)
     }
 }
 
-// Puts what `put` puts at each number below `count`, in order.
+// Puts what `put` puts at each number below `count`, in order. Counted: each call takes its number.
 fn put_each<F: Fn(usize, &mut Writer<'_>)>(count: usize, out: &mut Writer<'_>, put: F)
     requires { (i : ℕ) (w : _) → i < count → F.pre put i w }
     ensures { (text : ℕ → List ℕ) → PutsAt count (λ i w w'. F.post put i w tt w') text → Puts out.old out.new (each_below count text) }

@@ -52,10 +52,9 @@ impl Automaton {
     pub fn ends(&self, from: usize, letter: usize) -> StateSet
         ensures { (q : ℕ) → has result q ≡ (shown self.now).arrow from letter q }
     {
-        match self.rows.get(from) {
-            Some(row) => row.ends(letter),
-            None => StateSet::empty(),
-        }
+        self.rows
+            .get(from)
+            .map_or(StateSet::empty(), |row| row.ends(letter))
     }
 
     pub fn has_arrow(&self, arrow: Arrow) -> bool

@@ -24,6 +24,7 @@ impl Row {
     }
 
     // The row with these ends by a letter; the same row where there is no such letter.
+    // Like `put` of a colouring: one function for both would be as long as each.
     // By value: tried with `&mut self`, whose call on a row in the array gets no proof.
     pub fn with_ends(mut self, letter: usize, ends: StateSet) -> Row
         ensures code { result.code ≡ self.code }

@@ -37,7 +37,7 @@ fn check_arrow(automaton: &Automaton, arrow: Arrow) -> Result<(), CallFault>
     }
 }
 
-// Whether what is there or not can be added, where `on`, or else removed.
+// What is to be added may not be there yet, and what is to be removed has to be there.
 fn check_change(there: bool, on: bool) -> Result<(), CallFault>
     ensures { result ≡ unless (first_no ((if on then not there else there, if on then Present else Absent) ∷ [])) tt }
 {
@@ -88,7 +88,8 @@ impl<K: Kind> Draft<K> {
         self.change_arrow(arrow, false)
     }
 
-    // Makes a state an entry state, where `on`, or else ends that.
+    // Makes a state an entry state, where `on`, or else ends that. Like `change_arrow`, in other words of the automaton:
+    // one function for both would take three closures.
     fn change_entry(&mut self, state: usize, on: bool) -> Result<(), CallFault>
         ensures { Made K.model (if on then Enter state else Leave state) tt self.old self.new result }
     {

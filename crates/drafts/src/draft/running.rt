@@ -13,6 +13,7 @@ impl<K: Kind> Draft<K> {
     pub fn apply(&mut self, call: Call) -> Result<Answer, CallFault>
         ensures { Made K.model call (answer (drawn self.old) call) self.old self.new result }
     {
+        // a match: a call is data
         match call {
             Call::Grow(value) => self.grow(value).map(Answer::State),
             Call::Link(arrow) => self.link(arrow).map(|()| Answer::Done),
@@ -34,6 +35,7 @@ impl<K: Kind> Draft<K> {
         ensures left { OnOk result (drawn self.new ≡ after_all K.model (drawn self.old) calls.now) }
         ensures kept { is_err result ≡ true → self.new ≡ self.old }
     {
+        // the room first, so that no call is made where there is none
         let mut answers = Vec::with_capacity(heap, calls.len())?;
         for call in calls {
             let answer = self.apply(*call);

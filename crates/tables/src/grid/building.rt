@@ -27,7 +27,7 @@ pub enum BuildFault {
 }
 
 impl BuildFault {
-    // The number by which the refusal is known: a method, since `u8::from` would not say which number it gives.
+    // The number by which the refusal is known. A method: at a call `u8::from(fault)` would not tell that it is one.
     pub fn number(self) -> u8
         ensures { result ≡ build_fault_number self }
     {
@@ -61,7 +61,7 @@ fn fill_row<M: Machine>(
     ensures listed { i < roll.new.len }
 {
     rows[i].value = machine.value(&roll.as_slice()[i]);
-    // Counted, since a step takes the letter's number.
+    // Counted: over the cells it would be `rows[i].next[..letters].iter_mut().enumerate()`, which is no plainer.
     for letter in 0..letters {
         let state = machine.step(&roll.as_slice()[i], letter);
         let number = roll.place(state)?;

@@ -24,7 +24,7 @@ pub enum LayFault {
 }
 
 impl LayFault {
-    // The number by which the refusal is known: a method, since `u8::from` would not say which number it gives.
+    // The number by which the refusal is known. A method: at a call `u8::from(fault)` would not tell that it is one.
     pub fn number(self) -> u8
         ensures { result ≡ lay_fault_number self }
     {
@@ -75,6 +75,7 @@ fn lay_row(next: &[usize], letters: usize, i: usize) -> [u8; 16]
     ensures { result ≡ row_at letters next.now i }
 {
     let mut row = [0; 16];
+    // by its place: `row.iter_mut().zip(next[i * letters..][..letters].iter())` is no plainer
     for (a, state) in next[i * letters..][..letters].iter().enumerate() {
         // below 128 by what is required: u8::try_from would ask once more
         row[a] = *state as u8;
@@ -92,6 +93,7 @@ fn lay_rows(values: &[u8], next: &[usize], letters: usize) -> [Row; 128]
     ensures cells { cells_of result ≡ padded 128 (replicate 16 0) (length values.now) (row_at letters next.now) }
 {
     let mut rows = no_rows();
+    // by its number: `next.chunks_exact(letters)` would ask here, too, that there is a letter
     for (i, value) in values.iter().enumerate() {
         rows[i] = Row {
             value: *value,
