@@ -35,6 +35,7 @@ pub fn refusal_text(heap: Global, refusal: Refusal) -> Result<Vec<u8>, AllocErro
 }
 
 // What `tidy` prints of a text: the draft as it is written, or the line of the refusal.
+// What `press` prints is made alike: a function with a closure for what is made of the draft would be no shorter.
 pub fn tidied(heap: Global, text: &[u8]) -> Result<Vec<u8>, AllocError>
     ensures { IfOk result (λ v. v.items ≡ tidy_of text.now) }
 {

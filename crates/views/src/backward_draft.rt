@@ -55,6 +55,7 @@ impl<'a, K: Kind> Machine for BackwardDraft<'a, K> {
 
     fn step(&self, state: &Colouring, letter: usize) -> Colouring {
         let automaton = self.draft.automaton();
+        // as in the other machines: a function for these lines would be as long
         if letter >= automaton.sign_list().len() {
             return *state;
         }

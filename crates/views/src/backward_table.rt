@@ -35,6 +35,7 @@ impl<'a, K: Kind> Machine for BackwardTable<'a, K> {
 
     fn step(&self, state: &Colouring, letter: usize) -> Colouring {
         let grid = self.table.grid();
+        // as in the other machines: a function for these lines would be as long
         if letter >= grid.signs().len() {
             return *state;
         }

@@ -15,7 +15,7 @@ use drafts::draft::Draft;
 use kinds::kind::Kind;
 use machines::machine::Machine;
 
-// The value of a state of an automaton; what is no state has none.
+// The value of a state of an automaton; what is no state has none. `value_at` says it of a grid: a trait for both would be longer.
 pub fn code_at<K: Kind>(automaton: &Automaton, state: usize) -> u8
     ensures { result ≡ code_of_state K.model (shown automaton.now) state }
 {
@@ -59,6 +59,7 @@ impl<'a, K: Kind> Machine for ForwardDraft<'a, K> {
 
     fn step(&self, state: &Reached, letter: usize) -> Reached {
         let automaton = self.draft.automaton();
+        // as in the other machines: a function for these lines would be as long
         if letter >= automaton.sign_list().len() {
             return *state;
         }

@@ -11,7 +11,8 @@ use machines::machine::Machine;
 use tables::grid::Grid;
 use tables::table::Table;
 
-// The value of a state of a grid; what is no state has none.
+// The value of a state of a grid; what is no state has none. The state stays beside its grid: a struct of both would be
+// made anew at each step.
 pub fn value_at<K: Kind>(grid: &Grid, state: usize) -> u8
     ensures { result ≡ value_of_state K.model (shown grid.now) state }
 {
