@@ -11,7 +11,7 @@ pub enum SignFault {
 }
 
 impl SignFault {
-    // The number by which the refusal is known. A method: at a call `u8::from(fault)` would not tell that it is one.
+    // The number by which the refusal is known. A method: `u8::from(fault)` at a call would not say which number is meant.
     pub fn number(self) -> u8
         ensures { result ≡ sign_fault_number self }
     {

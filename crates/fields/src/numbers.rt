@@ -13,7 +13,7 @@ pub enum NumberFault {
 }
 
 impl NumberFault {
-    // The number by which the refusal is known. A method: at a call `u8::from(fault)` would not tell that it is one.
+    // The number by which the refusal is known. A method: `u8::from(fault)` at a call would not say which number is meant.
     pub fn number(self) -> u8
         ensures { result ≡ fault_number self }
     {

@@ -3,8 +3,8 @@ ghost use Rattle.kinds.specs.Delivered.{r_model};
 
 use crate::kind::Kind;
 
-// A rank: 0 to 255, joined to the larger. Y joins so too: one type with a const parameter for the largest code
-// would be no plainer, since which codes Y admits would hang on an alias that no contract pins.
+// A rank: 0 to 255, joined to the larger.
+// Y joins so too; with one type and a const parameter only an alias would say which codes Y admits, and no contract states an alias.
 #[derive(Clone, Copy)]
 pub struct R;
 

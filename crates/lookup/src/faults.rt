@@ -9,7 +9,7 @@ pub enum ValueFault {
 }
 
 impl ValueFault {
-    // The number by which the refusal is known. A method: at a call `u8::from(fault)` would not tell that it is one.
+    // The number by which the refusal is known. A method: `u8::from(fault)` at a call would not say which number is meant.
     pub fn number(self) -> u8
         ensures { result ≡ value_fault_number self }
     {
@@ -27,7 +27,7 @@ pub enum LongestFault {
 }
 
 impl LongestFault {
-    // The number by which the refusal is known. A method: at a call `u8::from(fault)` would not tell that it is one.
+    // The number by which the refusal is known. A method: `u8::from(fault)` at a call would not say which number is meant.
     pub fn number(self) -> u8
         ensures { result ≡ longest_fault_number self }
     {

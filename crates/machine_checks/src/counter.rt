@@ -35,7 +35,7 @@ impl Machine for Counter {
     }
 
     fn value(&self, state: &u64) -> u8 {
-        // 0 or 1: u8::try_from would ask once more
+        // 0 or 1: `u8::try_from` would add a refusal that cannot come
         (*state % 2) as u8
     }
 }

@@ -15,7 +15,7 @@ pub enum PressFault {
 }
 
 impl PressFault {
-    // The number by which the refusal is known. A method: at a call `u8::from(fault)` would not tell that it is one.
+    // The number by which the refusal is known. A method: `u8::from(fault)` at a call would not say which number is meant.
     pub fn number(self) -> u8
         ensures { result ≡ press_fault_number self }
     {
@@ -36,7 +36,7 @@ pub enum VerdictFault {
 }
 
 impl VerdictFault {
-    // The number by which the refusal is known. A method: at a call `u8::from(fault)` would not tell that it is one.
+    // The number by which the refusal is known. A method: `u8::from(fault)` at a call would not say which number is meant.
     pub fn number(self) -> u8
         ensures { result ≡ verdict_fault_number self }
     {

@@ -24,8 +24,7 @@ fn same_column<K: Kind>(chart: &Roll<'_, Colouring>, low: usize, high: usize) ->
         .all(|row| row.code::<K>(low) == row.code::<K>(high))
 }
 
-// Columns and chart stay two parameters from here on: `build_twice` says what was tried.
-
+// Columns and chart stay two parameters: a struct of two references would be made anew at each call, and be no plainer.
 // Whether two backward states tell against a state: their columns are equal and their codes there differ.
 fn tells<K: Kind>(
     columns: &Roll<'_, Colouring>,

@@ -15,8 +15,8 @@ use views::backward_draft::BackwardDraft;
 use views::backward_table::BackwardTable;
 use views::colouring::Colouring;
 
-// Table and roll stay apart: with a roll inside a struct (tried), no proof of a caller gets back the entries it lent.
-
+// Table and roll stay two parameters: with the roll inside a struct (tried), no proof of a caller gets back the entries
+// that it lent.
 // Builds the machine, and then its table as it is read backward.
 fn build_twice<M: Machine>(
     machine: &M,

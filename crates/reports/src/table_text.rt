@@ -31,7 +31,8 @@ fn put_head(letter: KindLetter, grid: &Grid, out: &mut Writer<'_>)
     out.put(b"\n");
 }
 
-// Puts the next state by a letter, behind a tab.
+// Puts the next state by a letter, behind a tab. That there is such a state is asked here and below: a struct of grid and
+// state would be made anew for each line.
 fn put_cell(grid: &Grid, state: usize, letter: usize, out: &mut Writer<'_>)
     requires state { state < count (shown grid.now) }
     requires letter { letter < length (sign_bytes grid.now.signs) }
@@ -47,7 +48,7 @@ fn put_cells(grid: &Grid, state: usize, out: &mut Writer<'_>)
     requires { state < count (shown grid.now) }
     ensures { Puts out.old out.new (behind 9 (tabulate (length (sign_bytes grid.now.signs)) (λ a. decimal (next (length (sign_bytes grid.now.signs)) (shown grid.now) state a)))) }
 {
-    // counted: a cell is asked for by its letter
+    // counted, as in `put_each` of texts, which is private there: a cell is asked for by its letter
     for letter in 0..grid.signs().len() {
         put_cell(grid, state, letter, out);
     }

@@ -11,7 +11,7 @@ use drafts::faults::CallFault;
 use fields::numbers::NumberFault;
 
 // A refusal as it is told: its number, the line and the field that it names, and the number inside
-// it; 0 where none applies. Lines and fields count from 1.
+// it; 0 where none applies. Lines and fields count from 1. Numbers, since these are what the line of a refusal prints.
 #[derive(Clone, Copy, PartialEq, Eq, Debug)]
 pub struct Refusal {
     pub number: u8,
@@ -21,7 +21,8 @@ pub struct Refusal {
 }
 
 impl Refusal {
-    // A refusal that names no line, no field and no inner number.
+    // A refusal that names no line, no field and no inner number. By its number: an impl of From for each fault would have to
+    // stand where both the fault and `Refusal` are known, and neither crate of them knows the other.
     pub fn plain(number: u8) -> Refusal
         ensures { result ≡ told number 0 0 0 }
     {
@@ -43,7 +44,7 @@ pub enum FieldFault {
 }
 
 impl FieldFault {
-    // The number by which the refusal is known. A method: at a call `u8::from(fault)` would not tell that it is one.
+    // The number by which the refusal is known. A method: `u8::from(fault)` at a call would not say which number is meant.
     pub fn number(self) -> u8
         ensures { result ≡ inner_of self }
     {
@@ -172,6 +173,7 @@ impl From<TextFault> for Refusal {
 }
 
 impl TextFault {
+    // The same as `Refusal::from`, named for callers.
     pub fn refusal(self) -> Refusal
         ensures { result ≡ refusal_of self }
     {

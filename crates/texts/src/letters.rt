@@ -14,7 +14,7 @@ pub enum KindLetter {
 }
 
 impl KindLetter {
-    // The byte of the letter. A method: at a call `u8::from(kind)` would not tell that it is a letter.
+    // The byte of the letter. A method: `u8::from(kind)` at a call would not say that a letter is meant.
     pub fn byte(self) -> u8
         ensures { result ≡ letter_byte self }
     {

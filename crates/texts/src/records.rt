@@ -42,7 +42,8 @@ fn last_field(rest: &[u8]) -> Result<&[u8], LineFault>
     }
 }
 
-// The place of a sign among the signs. Its own function: tried inside `read_letter`, and the proof did not close.
+// The place of a sign among the signs. No `Signs::letter`, since `read_call` takes a slice; its own function, since the
+// proof did not close inside `read_letter` (tried).
 fn place(signs: &[u8], sign: u8) -> Option<usize>
     ensures { result ≡ position (λ s. s == sign) signs.now }
 {

@@ -88,7 +88,7 @@ impl<K: Kind> Draft<K> {
         self.change_arrow(arrow, false)
     }
 
-    // Makes a state an entry state, where `on`, or else ends that. Like `change_arrow`, in other words of the automaton:
+    // Makes a state an entry state, where `on`, or else ends that. Like `change_arrow`, by other methods of the automaton:
     // one function for both would take three closures.
     fn change_entry(&mut self, state: usize, on: bool) -> Result<(), CallFault>
         ensures { Made K.model (if on then Enter state else Leave state) tt self.old self.new result }

@@ -13,7 +13,7 @@ impl<K: Kind> Draft<K> {
     pub fn apply(&mut self, call: Call) -> Result<Answer, CallFault>
         ensures { Made K.model call (answer (drawn self.old) call) self.old self.new result }
     {
-        // a match: a call is data
+        // a match: a call is data, listed and compared as no closure can be
         match call {
             Call::Grow(value) => self.grow(value).map(Answer::State),
             Call::Link(arrow) => self.link(arrow).map(|()| Answer::Done),

@@ -27,7 +27,7 @@ pub enum BuildFault {
 }
 
 impl BuildFault {
-    // The number by which the refusal is known. A method: at a call `u8::from(fault)` would not tell that it is one.
+    // The number by which the refusal is known. A method: `u8::from(fault)` at a call would not say which number is meant.
     pub fn number(self) -> u8
         ensures { result ≡ build_fault_number self }
     {
@@ -68,7 +68,7 @@ fn fill_row<M: Machine>(
         if number >= 128 {
             return Err(BuildFault::TooMany);
         }
-        // Below 128 by the line above: u8::try_from would ask once more.
+        // Below 128 by the line above: `u8::try_from` would add a refusal that cannot come.
         rows[i].next[letter] = number as u8;
     }
     Ok(())

@@ -24,7 +24,7 @@ pub enum LayFault {
 }
 
 impl LayFault {
-    // The number by which the refusal is known. A method: at a call `u8::from(fault)` would not tell that it is one.
+    // The number by which the refusal is known. A method: `u8::from(fault)` at a call would not say which number is meant.
     pub fn number(self) -> u8
         ensures { result ≡ lay_fault_number self }
     {
@@ -46,6 +46,7 @@ impl From<SignFault> for LayFault {
 }
 
 // Whether there are as many values and next states as the count and the letters ask for.
+// That there are at most 16 letters is asked by three functions here, which take the number and not the signs.
 fn is_shaped(letters: usize, count: usize, values: usize, cells: usize) -> bool
     requires { letters ≤ 16 }
     ensures { result ≡ shaped letters count values cells }
@@ -74,10 +75,11 @@ fn lay_row(next: &[usize], letters: usize, i: usize) -> [u8; 16]
     requires small { (k : ℕ) → k < length next.now → slice_index next.now k < 128 }
     ensures { result ≡ row_at letters next.now i }
 {
+    // no heap: 16 places
     let mut row = [0; 16];
     // by its place: `row.iter_mut().zip(next[i * letters..][..letters].iter())` is no plainer
     for (a, state) in next[i * letters..][..letters].iter().enumerate() {
-        // below 128 by what is required: u8::try_from would ask once more
+        // below 128 by what is required: `u8::try_from` would add a refusal that cannot come
         row[a] = *state as u8;
     }
     row
@@ -93,7 +95,7 @@ fn lay_rows(values: &[u8], next: &[usize], letters: usize) -> [Row; 128]
     ensures cells { cells_of result ≡ padded 128 (replicate 16 0) (length values.now) (row_at letters next.now) }
 {
     let mut rows = no_rows();
-    // by its number: `next.chunks_exact(letters)` would ask here, too, that there is a letter
+    // by its number: `zip(next.chunks_exact(letters))` would need one more requirement, that there is a letter
     for (i, value) in values.iter().enumerate() {
         rows[i] = Row {
             value: *value,
@@ -104,7 +106,7 @@ fn lay_rows(values: &[u8], next: &[usize], letters: usize) -> [Row; 128]
 }
 
 // The table with these signs, this many states, these values, and these next states, row after row.
-// Nothing is made where it is refused.
+// Nothing is made where it is refused. Values and next states are two slices, as a caller has them.
 pub fn lay<K: Kind>(
     signs: &[u8],
     count: usize,
