@@ -1,8 +1,8 @@
 -- What two placings leave of a roll in which no entry was in use.
-use Rattle.std.proofs.Common.{◌≡◌, ℕ, ◌<◌, ◌≤◌, true, false, ◌≢◌, ◌⊎◌, List, length, get_or, set, is_ok, Decides, Ok, Result, sym, ap, ◌∙◌, subst, inl, inr, arith}
+use Rattle.std.proofs.Common.{◌≡◌, ℕ, ◌<◌, ◌≤◌, true, false, ◌≢◌, ◌⊎◌, List, length, get_or, set, is_ok, Decides, Ok, Err, Result, sym, refl, ap, ◌∙◌, subst, inl, inr, ⊎_elim, arith}
 use Rattle.std.proofs.lemmas.List.{length-set, get_or-set_same, set_past}
 use Rattle.std.proofs.lemmas.Bool.{both_ways, cases_lt}
-use Rattle.rolls.specs.Rolls.{Different, Absent, Placed}
+use Rattle.rolls.specs.Rolls.{Different, Absent, Found, Added, Placed}
 use Rattle.rolls.proofs.Differing.{different_none}
 use Rattle.rolls.proofs.RollLaws.{placed_new, placed-again, placed-refused, placed_different}
 
@@ -81,16 +81,23 @@ module _ {S E : Type 0} (x y d : S) (es : List S) (n : ℕ) (es₁ : List S) (n�
       alone (inr none) full = (refused_all (omega arith)).1 ∙ sym (set_past es 0 x (omega arith))
 
   -- whether both are there
-  pub both_there : (x ≡ y) ⊎ (x ≢ y) → Decides (is_ok s) ((1 ≤ length es) × ((x ≡ y) ⊎ (2 ≤ length es)))
-  both_there which = (λ ok. there which (cases_lt 0 (length es)) (cases_lt 1 (length es)) ok, λ h. held h.0 h.1 which)
+  pub both_there : Decides (is_ok s) ((1 ≤ length es) × ((x ≡ y) ⊎ (2 ≤ length es)))
+  both_there = (there s second (cases_lt 0 (length es)), λ h. held s second h.0 h.1)
     where
-      there : (x ≡ y) ⊎ (x ≢ y) → (0 < length es) ⊎ (length es ≤ 0) → (1 < length es) ⊎ (length es ≤ 1) → is_ok s ≡ true → (1 ≤ length es) × ((x ≡ y) ⊎ (2 ≤ length es))
-      there w (inr none) room ok = absurd (both_ways (is_ok s) (refused_all (omega arith)).0 ok)
-      there (inl e) (inl some) room ok = (some, inl e)
-      there (inr ne) (inl some) (inl room) ok = (some, inr room)
-      there (inr ne) (inl some) (inr full) ok = absurd (both_ways (is_ok s) (refused (omega arith) ne).0 ok)
+      there : (t : Result ℕ E) → Placed y d es₁ n₁ es₂ n₂ t → (0 < length es) ⊎ (length es ≤ 0) → is_ok t ≡ true → (1 ≤ length es) × ((x ≡ y) ⊎ (2 ≤ length es))
+      there (Ok i) w (inl some) ok = ⊎_elim
+          (λ (f : Found y d es₁ n₁ es₂ n₂ i).
+          let z : i ≡ 0 = omega (arith, f.below, (first-placed some).1) in
+          (some, inl (sym (first-there some) ∙ ap (λ k. get_or es₁ k d) (sym z) ∙ f.there)))
+          (λ (f : Added y d es₁ n₁ es₂ n₂ i). (some, inr (omega (arith, f.room, (first-placed some).1, first-long some))))
+          w
+      there (Ok i) w (inr none) ok = ⊎_elim
+          (λ (f : Found y d es₁ n₁ es₂ n₂ i). absurd (omega (arith, f.below, (no_place (omega arith)).1)))
+          (λ (f : Added y d es₁ n₁ es₂ n₂ i). absurd (omega (arith, f.room, ap length (no_place (omega arith)).0)))
+          w
+      there (Err e) f some ok = absurd (both_ways false refl ok)
 
-      held : 1 ≤ length es → (x ≡ y) ⊎ (2 ≤ length es) → (x ≡ y) ⊎ (x ≢ y) → is_ok s ≡ true
-      held some (inl e) w = ap is_ok (again some e).0
-      held some (inr room) (inl e) = ap is_ok (again some e).0
-      held some (inr room) (inr ne) = ap is_ok (added room ne).0
+      held : (t : Result ℕ E) → Placed y d es₁ n₁ es₂ n₂ t → 1 ≤ length es → (x ≡ y) ⊎ (2 ≤ length es) → is_ok t ≡ true
+      held (Ok i) w some which = refl
+      held (Err e) f some (inl same) = absurd (f.absent 0 (omega (arith, (first-placed some).1)) (first-there some ∙ same))
+      held (Err e) f some (inr room) = absurd (omega (arith, f.full, (first-placed some).1, first-long some))

@@ -18,7 +18,7 @@ pub struct Roll<'a, T> {
 fn wipe<T: State>(entries: &mut [T])
     ensures { entries.new ≡ replicate (length entries.old) T.blank }
 {
-    entries.fill_with(|| T::default());
+    entries.fill_with(|| T::blank());
 }
 
 impl<'a, T: State> Roll<'a, T> {
@@ -77,7 +77,7 @@ impl<'a, T: State> Roll<'a, T> {
         ensures first { Searched x.now T.blank self.now.entries.now self.now.len result }
         ensures addable { Addable x.now self.now.entries.now self.now.len result }
     {
-        self.as_slice().iter().position(|e| e == x)
+        self.as_slice().iter().position(|e| e.same(x))
     }
 
     // The number of the entry that equals `x`; where there is none, `x` is added at the end.

@@ -1,37 +1,49 @@
-ghost use Rattle.std.specs.Prelude.{◌≡◌, ◌&&◌, Decides};
-ghost use Rattle.std.proofs.Common.{rules};
+ghost use Rattle.std.specs.Prelude.{◌≡◌, Decides};
 
-// A type of entries: equality and a blank, both from std. All that a further type has to show is that
-// `==` tells exactly the same values apart, and that a default value is the blank one.
-pub trait State: Eq + Default + Drop {
+// What a type of entries tells: whether two are equal, and a blank one. Nothing else is asked of it.
+pub trait State: Drop {
     ghost blank: { Self };
 
-    ghost exact: { (x y : Self) → Decides (Self.eq x y) (x ≡ y) };
+    fn blank() -> Self
+        ensures { result ≡ blank };
 
-    ghost default_blank: { (x : Self) → Self.is_default x → x ≡ blank };
+    fn same(&self, other: &Self) -> bool
+        ensures { Decides result (self.now ≡ other.now) };
 }
 
 impl State for usize {
     ghost blank = { 0 };
 
-    ghost exact = { Prim.search rules };
+    fn blank() -> usize {
+        0
+    }
 
-    ghost default_blank = { Prim.search rules };
+    fn same(&self, other: &usize) -> bool {
+        *self == *other
+    }
 }
 
 impl State for u64 {
     ghost blank = { 0 };
 
-    ghost exact = { Prim.search rules };
+    fn blank() -> u64 {
+        0
+    }
 
-    ghost default_blank = { Prim.search rules };
+    fn same(&self, other: &u64) -> bool {
+        *self == *other
+    }
 }
 
 // Two entries side by side; the blank pair is the pair of the blanks.
 impl<A: State, B: State> State for (A, B) {
-    ghost blank = { (A.blank, B.blank) };
+    ghost blank = { (A.State.blank, B.State.blank) };
 
-    ghost exact = { Prim.search rules };
+    fn blank() -> (A, B) {
+        (A::blank(), B::blank())
+    }
 
-    ghost default_blank = { Prim.search rules };
+    fn same(&self, other: &(A, B)) -> bool {
+        self.0.same(&other.0) && self.1.same(&other.1)
+    }
 }

@@ -1,8 +1,7 @@
 ghost use Rattle.std.specs.Prelude.{◌≡◌};
-ghost use Rattle.std.proofs.Common.{rules};
 ghost use Rattle.automata.specs.Sets.{no_states};
 ghost use Rattle.views.specs.Colourings.{plain};
-ghost use Rattle.views.specs.Those.{reached_set, same_reached};
+ghost use Rattle.views.specs.Those.{reached_set};
 
 use crate::colouring::Colouring;
 use automata::sets::StateSet;
@@ -29,12 +28,16 @@ impl Default for Reached {
 impl State for Reached {
     ghost blank = { reached_set no_states };
 
-    ghost exact = { Prim.search (rules, same_reached) };
+    fn blank() -> Reached {
+        Reached::default()
+    }
 
-    ghost default_blank = { Prim.search rules };
+    fn same(&self, other: &Reached) -> bool {
+        u32::from(self.set) == u32::from(other.set)
+    }
 }
 
-// By hand: tried to derive, and the proof of `default_blank` did not close for an array of 128.
+// By hand: tried to derive, and the proof that it is the blank one did not close for an array of 128.
 impl Default for Colouring {
     ghost is_default = { λ x. x ≡ plain 0 };
 
@@ -47,7 +50,11 @@ impl Default for Colouring {
 impl State for Colouring {
     ghost blank = { plain 0 };
 
-    ghost exact = { Prim.search rules };
+    fn blank() -> Colouring {
+        Colouring::default()
+    }
 
-    ghost default_blank = { Prim.search rules };
+    fn same(&self, other: &Colouring) -> bool {
+        self.codes == other.codes
+    }
 }

@@ -1,6 +1,5 @@
-use Rattle.std.proofs.Common.{◌≡◌, ℕ, ◌≤◌, ◌≢◌, ◌⊎◌, length, set, replicate, is_ok, Decides, ap, ◌∙◌, subst, inl, inr, rules}
+use Rattle.std.proofs.Common.{◌≡◌, ℕ, ◌≤◌, ◌⊎◌, length, set, replicate, is_ok, Decides, ap, ◌∙◌, subst, rules}
 use lib.ListN.{length-replicate}
-use Rattle.std.proofs.lemmas.Bool.{both_ways, cases_Bool}
 use Rattle.rolls.proofs.TwoPlaced.{equal_placed, other_placed, both_there}
 use Rattle.rolls.proofs.lend.lend_two.Goals as goal
 
@@ -13,9 +12,6 @@ returns g c =
     let roll = c.fresh-roll.result in
     let one = c.place.new.self in
     let two = c.place-2.new.self in
-    let exact = g.met.T.State.exact x y in
-    let which : (c.args.x ≡ c.args.y) ⊎ (c.args.x ≢ c.args.y) =
-    elim (cases_Bool (g.T.PartialEq.eq x y)) [ inl t ↦ inl (exact.0 t) | inr f ↦ inr (λ e. both_ways _ f (exact.1 e)) ] in
     let blank : c.fresh-roll.result.entries.now ≡ replicate (length c.args.entries.now) g.T.State.blank = c.fresh-roll.ensures.items in
     let long : length c.fresh-roll.result.entries.now ≡ (length c.args.entries.now) = ap length blank ∙ length-replicate n d in
     record {
@@ -33,5 +29,5 @@ returns g c =
           search rules;
       answer = subst (λ (k : ℕ). Decides (is_ok c.place-2.result) ((1 ≤ k) × ((c.args.x ≡ c.args.y) ⊎ (2 ≤ k)))) long
           (both_there x y d roll.entries.now roll.len one.entries.now one.len two.entries.now two.len c.place.result c.place-2.result
-          c.fresh-roll.ensures.len c.place.ensures.placed c.place-2.ensures.placed which);
+          c.fresh-roll.ensures.len c.place.ensures.placed c.place-2.ensures.placed);
     }
