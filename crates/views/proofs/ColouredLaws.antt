@@ -1,13 +1,12 @@
 -- The codes of a colouring that is made by a function, and such a colouring made code by code.
-use Rattle.std.proofs.Common.{◌≡◌, ℕ, ◌+◌, ◌<◌, ◌≤◌, cond, ltb, List, length, get_or, zero, suc, sym, ap, subst, ◌∙◌, inl, inr, arith}
-use denote.Param.Members.{Mut}
-use Rattle.std.specs.Array.{IsFromFnResultFrom, IsFromFnResult}
-use Rattle.std.specs.Iterator.{ActsAs}
+use Rattle.std.proofs.Common.{◌≡◌, ℕ, ◌+◌, ◌<◌, ◌≤◌, cond, ltb, List, length, get_or, set, sym, ap, ◌∙◌, inl, inr, arith, length-set}
+use lib.ListN.{length-replicate}
+use Rattle.std.proofs.lemmas.List.{get_or-set_same, get_or-set_other, get_or-replicate}
 use Rattle.std.proofs.lemmas.Bool.{cases_lt, cases_eq, lt-ltb, le-ltb, cond-true, cond-false}
 use Rattle.kinds.specs.Kinds.{KindModel}
 use Rattle.drafts.proofs.Tabulates.{length-tabulate, get_d_tabulate, get_or_tabulate_past, is_tabulate}
 use Rattle.views.specs.declared.colouring.Colouring.{Colouring}
-use Rattle.views.specs.Colourings.{coloured}
+use Rattle.views.specs.Colourings.{plain, coloured}
 
 abbrev made : List ℕ → Colouring
 made cs = record { codes = cs }
@@ -52,17 +51,38 @@ module _ (K : KindModel) (n : ℕ) (f : ℕ → ℕ) where
         | inr far ↦ coloured-past p K.none far
       ]
 
--- what calls gave, one for each place from i on
-called-at : {F : Type 0} (g : Mut F (ℕ × Unit {0}) ℕ) (c : F) (h : ℕ → ℕ) → ActsAs g c h
-    → (cs : List ℕ) (i n : ℕ) → IsFromFnResultFrom g c cs i n → (p d : ℕ) → i ≤ p → p < i + n → get_or cs p d ≡ h p
-called-at g c h acts cs i zero calls p d low high = absurd (omega arith)
-called-at g c h acts cs i (suc n) (q, y, here, call, rest) p d low high =
-    elim (cases_eq p i) [
-      | inl same ↦ ap (λ k. get_or cs k d) same ∙ here.1 d ∙ (acts i y q call).1 ∙ ap h (sym same)
-      | inr ne ↦ called-at g c h acts cs (i + 1) n (subst (λ f. IsFromFnResultFrom g f cs (i + 1) n) (acts i y q call).0 rest) p d (omega arith) (omega arith)
-    ]
+pub coloured-first : (K : KindModel) (f : ℕ → ℕ) (c : ℕ) → c ≡ K.none → plain c ≡ coloured K 0 f
+coloured-first K f c e =
+    coloured_is K 0 f (plain c) (length-replicate 128 c)
+    (λ p l. get_or-replicate 128 p c K.none l ∙ e ∙ sym (cond-false (ltb p 0) (f p) K.none (le-ltb p 0 (omega arith))))
 
--- a colouring whose codes calls gave
-pub coloured_made : (K : KindModel) (n : ℕ) (f : ℕ → ℕ) {F : Type 0} {g : Mut F (ℕ × Unit {0}) ℕ} {c : F} {cs : List ℕ}
-    → IsFromFnResult g c cs 128 → ActsAs g c (placed K n f) → made cs ≡ coloured K n f
-coloured_made K n f {F} {g} {c} {cs} r acts = coloured_is K n f (made cs) r.long (λ p l. called-at g c (placed K n f) acts cs 0 128 r.each p K.none (omega arith) (omega arith))
+-- one code more
+pub colour_next : (K : KindModel) (n : ℕ) (f : ℕ → ℕ) (x : ℕ) (r s : Colouring) → s ≡ coloured K n f → x ≡ f n → r.codes ≡ set s.codes n x → r ≡ coloured K (n + 1) f
+colour_next K n f x r s so here e = coloured_is K (n + 1) f r long at
+  where
+    long : length r.codes ≡ 128
+    long = ap length e ∙ length-set s.codes n x ∙ ap (λ (c : Colouring). length c.codes) so ∙ coloured-length K n f
+
+    wide : length s.codes ≡ 128
+    wide = ap (λ (c : Colouring). length c.codes) so ∙ coloured-length K n f
+
+    test : (p : ℕ) → (p ≡ n → ⊥) → ltb p n ≡ ltb p (n + 1)
+    test p ne =
+        elim (cases_lt p n) [
+          | inl l ↦ lt-ltb p n l ∙ sym (lt-ltb p (n + 1) (omega arith))
+          | inr g ↦ le-ltb p n g ∙ sym (le-ltb p (n + 1) (omega arith))
+        ]
+
+    at : (p : ℕ) → p < 128 → get_or r.codes p K.none ≡ placed K (n + 1) f p
+    at p l =
+        ap (λ cs. get_or cs p K.none) e ∙ elim (cases_eq p n) [
+          | inl same ↦
+              ap (λ k. get_or (set s.codes n x) k K.none) same
+              ∙ get_or-set_same s.codes n x K.none (omega (arith, wide))
+              ∙ here ∙ ap f (sym same) ∙ sym (cond-true (ltb p (n + 1)) (f p) K.none (lt-ltb p (n + 1) (omega arith)))
+          | inr ne ↦
+              get_or-set_other s.codes n p x K.none ne
+              ∙ ap (λ (c : Colouring). get_or c.codes p K.none) so
+              ∙ coloured-at K n f p K.none l
+              ∙ ap (λ b. cond b (f p) K.none) (test p ne)
+        ]

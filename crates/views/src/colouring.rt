@@ -1,8 +1,7 @@
-ghost use Rattle.std.specs.Prelude.{◌≡◌, ℕ, ◌<◌, ◌≤◌, slice_index_or, slice_set};
+ghost use Rattle.std.specs.Prelude.{◌≡◌, ℕ, slice_index_or, slice_set};
 ghost use Rattle.views.specs.Colourings.{plain, coloured};
 
 use kinds::kind::Kind;
-use std::array;
 
 // A code for each of 128 places.
 #[derive(Clone, Copy, PartialEq, Eq)]
@@ -23,15 +22,12 @@ impl Colouring {
         requires { F.IsAlwaysCallable code }
         ensures { (f : ℕ → ℕ) → ((p r : ℕ) → F.post code p r → r ≡ f p) → result ≡ coloured K.model count f }
     {
-        Colouring {
-            codes: array::from_fn(
-                |p|
-                    requires { F.IsAlwaysCallable code }
-                    ensures below { p < count → F.post code p result }
-                    ensures past { count ≤ p → result ≡ K.model.none }
-                { if p < count { code(p) } else { K::none() } },
-            ),
+        let mut colouring = Colouring::plain(K::none());
+        // counted, code by code: `array::from_fn` would go through all 128 places
+        for p in 0..count {
+            colouring = colouring.put(p, code(p));
         }
+        colouring
     }
 
     // The code at a place; from place 128 on it is none.

@@ -16,7 +16,7 @@ use tables::table::Table;
 use texts::faults::Refusal;
 use texts::for_any_kind;
 use texts::reading::read_draft;
-use texts::tidying::refusal_text;
+use texts::writing::write_refusal;
 use views::forward_draft::ForwardDraft;
 use views::states::Reached;
 
@@ -75,9 +75,12 @@ fn print_rows(rt: &HostRuntime, grid: &Grid) -> anyhow::Result<()> {
 }
 
 // In `scan` too: no contract says what is printed, so it may not be a library's public function.
+// Here without a heap, so that it is printed where no memory is left, too: no refusal's line has more than 86 bytes.
 fn print_refusal(rt: &HostRuntime, refusal: Refusal) -> anyhow::Result<()> {
-    let line = refusal_text(rt.alloc(), refusal)?;
-    rt.stdout().write_all(line.as_slice())?;
+    let mut line = [0; 86];
+    if let Ok(len) = write_refusal(refusal, &mut line) {
+        rt.stdout().write_all(&line[..len])?;
+    }
     Ok(())
 }
 

@@ -1,10 +1,15 @@
-use Rattle.std.proofs.Common.{rules, of_calls}
-use Rattle.views.proofs.ColouredLaws.{placed_is, coloured_made}
+use Rattle.std.proofs.Common.{ap, ◌∙◌, arith}
+use Rattle.views.specs.Colourings.{coloured}
+use Rattle.views.proofs.ColouredLaws.{coloured-first, colour_next}
 use Rattle.views.proofs.colouring.Colouring.of.Goals as goal
+
+pub loop-p-init : goal.loop-p-init
+loop-p-init g c = λ f h. c.plain-colouring.ensures ∙ coloured-first g.K.Kind.model f c.none.result c.none.ensures
+
+pub loop-p-preserved : goal.loop-p-preserved
+loop-p-preserved g c = λ f h.
+    colour_next g.K.Kind.model c.loop-p.p f c.code.result c.put-colouring.result c.loop-p.colouring (c.loop-p.invariant f h) (h c.loop-p.p c.code.result c.code.ensures) c.put-colouring.ensures
 
 pub returns : goal.returns
 returns g c = λ f h.
-    let K = g.K.Kind.model in
-    let n = c.args.count in
-    coloured_made K n f c.from_fn.ensures.items
-    (λ p r q k. (Prim.search rules, placed_is K n f p r (λ l. Prim.search (rules, of_calls, h)) (λ l. Prim.search (rules, of_calls))))
+    c.loop-p.invariant f h ∙ ap (λ n. coloured g.K.Kind.model n f) (omega (arith, c.loop-p.auto.p-end, c.loop-p-test.false))
