@@ -1,9 +1,8 @@
 -- What iterators find of the chart and of the states of a draft.
-use Rattle.std.proofs.Common.{◌≡◌, ℕ, ◌<◌, ◌≤◌, Bool, true, false, List, length, take, Some, None, Option, sym, refl, subst, arith}
-use Rattle.std.specs.Bool.{Decides, MatchBool}
-use Rattle.std.specs.List.{slice_index_or, AllWithin, HoldsAt}
+use Rattle.std.proofs.Common.{◌≡◌, ℕ, ◌<◌, ◌≤◌, Bool, List, length, take, Some, None, Option, sym, subst, arith}
+use Rattle.std.specs.Bool.{Decides}
+use Rattle.std.specs.List.{slice_index_or}
 use Rattle.std.specs.Option.{MatchOption}
-use Rattle.std.proofs.lemmas.Bool.{both_ways}
 use Rattle.std.proofs.lemmas.List.{get_or-take, length-take-le}
 use Rattle.kinds.specs.Kinds.{KindModel}
 use Rattle.views.specs.declared.colouring.Colouring.{Colouring}
@@ -16,17 +15,12 @@ Same K low high c = slice_index_or c.codes low K.none ≡ slice_index_or c.codes
 
 -- two columns are equal exactly if the codes of each row in use are
 pub columns_decide : (K : KindModel) (es : List Colouring) (len : ℕ) → len ≤ length es → (low high : ℕ) (b : Bool)
-    → MatchBool b (AllWithin (Same K low high) (take len es) 0 (length (take len es))) ((k : ℕ) × (k < length (take len es)) × HoldsAt (λ c. Same K low high c → ⊥) (take len es) k)
+    → Decides b ((k : ℕ) → k < length (take len es) → Same K low high (slice_index_or (take len es) k (plain 0)))
     → Decides b (SameColumn K es len low high)
-columns_decide K es len within low high true h =
+columns_decide K es len within low high b h =
     let long = length-take-le len es within in (
-      λ _ r l. subst (Same K low high) (get_or-take len es r (plain 0) l) (h r (plain 0) (omega arith) (omega arith)),
-      λ _. refl,
-    )
-columns_decide K es len within low high false h =
-    let l : h.0 < len = omega (arith, length-take-le len es within, h.1) in (
-      λ e. absurd (both_ways false refl e),
-      λ same. absurd (h.2 (plain 0) (subst (Same K low high) (sym (get_or-take len es h.0 (plain 0) l)) (same h.0 l))),
+      λ e r l. subst (Same K low high) (get_or-take len es r (plain 0) l) (h.0 e r (omega arith)),
+      λ same. h.1 (λ k l. let m : k < len = omega arith in subst (Same K low high) (sym (get_or-take len es k (plain 0) m)) (same k m)),
     )
 
 -- the first state that is told is the first that a search finds
