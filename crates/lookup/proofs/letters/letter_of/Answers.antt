@@ -1,4 +1,4 @@
-use Rattle.std.proofs.Common.{◌≡◌, ℕ, eqb, ltb, List, length, Some, None, Option, sym, ◌∙◌, inl, inr, arith}
+use Rattle.std.proofs.Common.{◌≡◌, ℕ, eqb, ltb, List, length, Some, None, Option, sym, ◌∙◌, subst, inl, inr, arith, rules}
 use Rattle.std.specs.List.{position, position_or_len}
 use Rattle.std.proofs.lemmas.Bool.{cases_lt, lt-ltb, cond-true, eqb-true, eq-eqb, both_ways}
 use Rattle.std.proofs.lemmas.List.Quantifiers.{position-Some}
@@ -17,4 +17,7 @@ letter_is signs byte None e = λ a l h.
     ]
 
 pub returns : goal.returns
-returns c = letter_is (sign_bytes c.args.signs.now) c.args.byte c.letter.result c.letter.ensures
+returns c =
+    let signs = sign_bytes c.args.signs.now in
+    -- that the answer is what `letter` found is left to the search, so that it may come by another call
+    subst (LetterOf signs c.args.byte) {x = c.letter.result} (search rules) (letter_is signs c.args.byte c.letter.result c.letter.ensures)
