@@ -57,13 +57,14 @@ accepted-parts xs e =
       | inr f ↦ absurd (let z : ◌≡◌ {A = ℕ} 0 1 = (let w : sign_fault xs ≡ Some Count = rw f refl in cc) in omega arith)
     ]
 
--- the signs in 16 places keep the rules too, and are 0 past their number
+-- the signs in 16 places are 0 past their number
+pub placed-blank : (xs : List ℕ) → BlankPast (placed 16 xs 0) (length xs)
+placed-blank xs k l = placed-past 16 xs 0 k l
+
+-- and keep the rules too, where there are no more of them
 module _ (xs : List ℕ) (few : length xs ≤ 16) where
   pub placed-visible : Visible xs (length xs) → Visible (placed 16 xs 0) (length xs)
   placed-visible v k l = rw (placed-at 16 xs 0 k (omega arith)) (v k l)
 
   pub placed-apart : Apart xs (length xs) → Apart (placed 16 xs 0) (length xs)
   placed-apart a k l j lj e = a k l j lj (sym (placed-at 16 xs 0 j (omega arith)) ∙ (e ∙ placed-at 16 xs 0 k (omega arith)))
-
-  pub placed-blank : BlankPast (placed 16 xs 0) (length xs)
-  placed-blank k l = placed-past 16 xs 0 k l

@@ -16,7 +16,7 @@ invariant_of-result c =
       few = n.1;
       visible = subst (λ (bs : List ℕ). Visible bs (length xs)) (sym e) (placed-visible xs n.1 (visible_from xs a.1));
       apart = subst (λ (bs : List ℕ). Apart bs (length xs)) (sym e) (placed-apart xs n.1 (apart_from xs a.1));
-      blank = subst (λ (bs : List ℕ). BlankPast bs (length xs)) (sym e) (placed-blank xs n.1);
+      blank = subst (λ (bs : List ℕ). BlankPast bs (length xs)) (sym e) (placed-blank xs);
     }
 
 pub returns : goal.returns
