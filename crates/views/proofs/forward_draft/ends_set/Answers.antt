@@ -1,4 +1,4 @@
-use Rattle.std.proofs.Common.{ℕ, ◌&&◌, map, ap, ◌∙◌, rules}
+use Rattle.std.proofs.Common.{ℕ, ◌&&◌, map, ap, ◌∙◌, arith, rules}
 use Rattle.std.specs.List.{fold, filter}
 use Rattle.automata.specs.declared.sets.StateSet.{StateSet}
 use Rattle.automata.specs.Held.{ends_of}
@@ -22,7 +22,7 @@ returns c = ends_are c.args.automaton.now c.fold.result c.args.set c.args.letter
     ap (λ (t : StateSet). has t q)
     (a.3 either (λ x y z h k. (Prim.search rules, either_is x y z (Prim.search rules)))
     ∙ ap (fold either c.empty.result)
-    (b.2.3 ends (λ x z h k. (Prim.search rules, same_members z (ends x) (Prim.search rules)))
+    (b.2.3 ends (λ x z h k. (Prim.search rules, same_members z (ends x) (λ q. grind arith)))
     ∙ ap (map ends) (d.2.4 s (λ x z h k. Prim.search rules) ∙ ap (filter s) (range_items d.0 n (d.2.0 ∙ b.2.0 ∙ a.2) d.1)))
     ∙ ap (λ (x : StateSet). chain either x s ends n) c.empty.ensures)
     ∙ has-united s ends n q
