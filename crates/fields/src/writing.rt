@@ -14,7 +14,7 @@ pub struct Writer<'a> {
 }
 
 impl<'a> Writer<'a> {
-    ghost use Rattle.fields.specs.Writing.{Puts};
+    ghost use Rattle.fields.specs.Writing.{Puts, PutsCut};
 
     pub fn new(out: &'a mut [u8]) -> Writer<'a>
         ensures loan { result.out.ghost_name ≡ out.entry.ghost_name }
@@ -22,6 +22,15 @@ impl<'a> Writer<'a> {
         ensures len { result.len ≡ 0 }
     {
         Writer { out, len: 0 }
+    }
+
+    // A writer that goes on where `len` bytes were put before, be that past the end.
+    pub fn at(out: &'a mut [u8], len: usize) -> Writer<'a>
+        ensures loan { result.out.ghost_name ≡ out.entry.ghost_name }
+        ensures kept { result.out.now ≡ out.old }
+        ensures len { result.len ≡ len }
+    {
+        Writer { out, len }
     }
 
     pub fn len(&self) -> usize
@@ -42,11 +51,28 @@ impl<'a> Writer<'a> {
         self.len = end;
     }
 
+    // Puts the bytes of `piece` behind those put so far, as many as there is room for, and counts them all.
+    pub fn put_cut(&mut self, piece: &[u8])
+        ensures { PutsCut self.old self.new piece.now }
+    {
+        let start = self.len;
+        let room = self.out.len().saturating_sub(start);
+        self.put(&piece[..piece.len().min(room)]);
+        self.len = start.saturating_add(piece.len());
+    }
+
     // Puts the decimal digits of `n`, as `put` does.
     pub fn put_number(&mut self, n: u64)
         ensures puts { Puts self.old self.new (decimal n) }
         ensures kept { length self.old.out.now < self.old.len + length (decimal n) → self.new.out.now ≡ self.old.out.now }
     {
         self.put(itoa::Buffer::new().format(n).as_bytes());
+    }
+
+    // Puts the decimal digits of `n`, as `put_cut` does.
+    pub fn put_number_cut(&mut self, n: u64)
+        ensures { PutsCut self.old self.new (decimal n) }
+    {
+        self.put_cut(itoa::Buffer::new().format(n).as_bytes());
     }
 }

@@ -1,6 +1,6 @@
 // Whatever has a written form.
 ghost use Rattle.std.specs.Prelude.{◌≡◌, ℕ, List, ◌∷◌, length, decimal};
-ghost use Rattle.fields.specs.Writing.{capped, Puts};
+ghost use Rattle.fields.specs.Writing.{capped, PutsCut};
 ghost use Rattle.fields.specs.Written.{write_fault_number, Wrote};
 
 use crate::writing::Writer;
@@ -28,9 +28,9 @@ pub trait Written {
     // the bytes that are written
     ghost text: { Self → List ℕ };
 
-    // Puts the text. Where there is no room for all of it, only the count and the length of the slice are said.
+    // Puts the text, as much of it as there is room for, and counts it all.
     fn put(&self, out: &mut Writer<'_>)
-        ensures { Puts out.old out.new (text self.now) };
+        ensures { PutsCut out.old out.new (text self.now) };
 
     // How many bytes the text has, or the largest `usize` where they are more.
     final fn written_len(&self) -> usize
@@ -63,7 +63,7 @@ impl Written for Number {
 
     fn put(&self, out: &mut Writer<'_>) {
         // a cast: std has no From<usize> for u64
-        out.put_number(self.0 as u64);
+        out.put_number_cut(self.0 as u64);
     }
 }
 
@@ -75,7 +75,7 @@ impl Written for Field {
     ghost text = { λ f. 9 ∷ decimal f.0 };
 
     fn put(&self, out: &mut Writer<'_>) {
-        out.put(b"\t");
+        out.put_cut(b"\t");
         Number(self.0).put(out);
     }
 }

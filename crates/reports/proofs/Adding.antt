@@ -2,9 +2,9 @@
 use Rattle.std.proofs.Common.{◌≡◌, ℕ, ◌+◌, true, List, [], ◌∷◌, ◌++◌, is_err, IfOk, Ok, Err, Result, sym, refl, ap, ◌∙◌, append_assoc, append-nil}
 use Rattle.std.proofs.lemmas.Bool.{both_ways}
 use Rattle.fields.specs.Pieces.{behind, ended}
-use Rattle.fields.specs.Writing.{Puts}
+use Rattle.fields.specs.Writing.{PutsCut}
 use Rattle.fields.specs.declared.writing.Writer.{Writer}
-use Rattle.fields.proofs.Placed.{puts_then}
+use Rattle.fields.proofs.Placed.{cut_then}
 use Rattle.drafts.specs.Words.{tabulate}
 use Rattle.drafts.proofs.Tabulates.{tabulate-more}
 use Rattle.texts.specs.Writing.{ended_line}
@@ -15,14 +15,14 @@ behind-append b [] qs = refl
 behind-append b (p ∷ ps) qs = ap (λ (t : List ℕ). b ∷ (p ++ t)) (behind-append b ps qs) ∙ ap (λ (t : List ℕ). b ∷ t) (sym (append_assoc p (behind b ps) (behind b qs)))
 
 -- one field more
-pub puts_field : {u v w : Writer} (b n : ℕ) (f : ℕ → List ℕ) → Puts u v (behind b (tabulate n f)) → Puts v w (b ∷ f n) → Puts u w (behind b (tabulate (n + 1) f))
+pub puts_field : {u v w : Writer} (b n : ℕ) (f : ℕ → List ℕ) → PutsCut u v (behind b (tabulate n f)) → PutsCut v w (b ∷ f n) → PutsCut u w (behind b (tabulate (n + 1) f))
 puts_field b n f p q =
     puts_as (sym (ap (behind b) (tabulate-more n f) ∙ (behind-append b (tabulate n f) (f n ∷ []) ∙ ap (λ (t : List ℕ). behind b (tabulate n f) ++ (b ∷ t)) (append-nil (f n)))))
-    (puts_then p q)
+    (cut_then p q)
 
 -- one line more
-pub puts_line : {u v w : Writer} (b n : ℕ) (f : ℕ → List ℕ) → Puts u v (ended b (tabulate n f)) → Puts v w (f n ++ b ∷ []) → Puts u w (ended b (tabulate (n + 1) f))
-puts_line b n f p q = puts_as (sym (ap (ended b) (tabulate-more n f) ∙ ended-append b (tabulate n f) (f n ∷ []))) (puts_then p q)
+pub puts_line : {u v w : Writer} (b n : ℕ) (f : ℕ → List ℕ) → PutsCut u v (ended b (tabulate n f)) → PutsCut v w (f n ++ b ∷ []) → PutsCut u w (ended b (tabulate (n + 1) f))
+puts_line b n f p q = puts_as (sym (ap (ended b) (tabulate-more n f) ∙ ended-append b (tabulate n f) (f n ∷ []))) (cut_then p q)
 
 pub head_text : (letter : ℕ) (signs number : List ℕ)
     → (84 ∷ 9 ∷ letter ∷ 9 ∷ []) ++ (signs ++ ((9 ∷ number) ++ 10 ∷ [])) ≡ ended_line ((84 ∷ []) ∷ (letter ∷ []) ∷ signs ∷ number ∷ [])

@@ -1,6 +1,6 @@
 // The whole text that is printed of a press: the table and the line of the verdict.
 ghost use Rattle.std.specs.Prelude.{◌≡◌, ◌∷◌};
-ghost use Rattle.fields.specs.Writing.{Puts};
+ghost use Rattle.fields.specs.Writing.{PutsCut};
 ghost use Rattle.automata.specs.Shown.{sign_bytes};
 ghost use Rattle.tables.specs.Shown.{shown};
 ghost use Rattle.texts.specs.Writing.{ended_line};
@@ -24,11 +24,11 @@ pub struct Report<'a> {
 
 // Puts a tab and a number, or - where there is none.
 fn put_option(number: Option<usize>, out: &mut Writer<'_>)
-    ensures { Puts out.old out.new (9 ∷ option_field number) }
+    ensures { PutsCut out.old out.new (9 ∷ option_field number) }
 {
     match number {
         Some(number) => Field(number).put(out),
-        None => out.put(b"\t-"),
+        None => out.put_cut(b"\t-"),
     }
 }
 
@@ -42,14 +42,14 @@ fn verdict_byte(not_atomic: Option<usize>) -> u8
 impl Report<'_> {
     // Puts the line of the verdict.
     fn put_verdict(&self, out: &mut Writer<'_>)
-        ensures { Puts out.old out.new (ended_line (verdict_fields self.now.backward_count self.now.not_atomic self.now.forward_count)) }
+        ensures { PutsCut out.old out.new (ended_line (verdict_fields self.now.backward_count self.now.not_atomic self.now.forward_count)) }
     {
-        out.put(b"V");
+        out.put_cut(b"V");
         Field(self.backward_count).put(out);
-        out.put(&[b'\t', verdict_byte(self.not_atomic)]);
+        out.put_cut(&[b'\t', verdict_byte(self.not_atomic)]);
         put_option(self.not_atomic, out);
         put_option(self.forward_count, out);
-        out.put(b"\n");
+        out.put_cut(b"\n");
     }
 }
 

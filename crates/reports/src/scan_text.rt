@@ -1,6 +1,6 @@
 // What `scan` prints of an entry: its value, and its longest front part.
 ghost use Rattle.std.specs.Prelude.{◌≡◌, ◌∷◌, ◌++◌, []};
-ghost use Rattle.fields.specs.Writing.{Puts};
+ghost use Rattle.fields.specs.Writing.{PutsCut};
 ghost use Rattle.lookup.specs.Lookups.{Valued, Longest};
 ghost use Rattle.reports.specs.Scans.{code_text, no_sign_text, value_text, part_text, longest_text, ScanAdds};
 
@@ -36,25 +36,25 @@ impl<'t> Scan<'t> {
 
 // Puts the fields of a value: V, the value and -.
 fn put_code(code: u8, out: &mut Writer<'_>)
-    ensures { Puts out.old out.new (code_text code) }
+    ensures { PutsCut out.old out.new (code_text code) }
 {
-    out.put(b"V");
+    out.put_cut(b"V");
     Field(usize::from(code)).put(out);
-    out.put(b"\t-");
+    out.put_cut(b"\t-");
 }
 
 // Puts the fields of a byte that is no sign: X, the number of the refusal and the place.
 // The number stands in the text: tried with `fault.number()`, here and below, and the proof did not close.
 fn put_no_sign(place: usize, out: &mut Writer<'_>)
-    ensures { Puts out.old out.new (no_sign_text place) }
+    ensures { PutsCut out.old out.new (no_sign_text place) }
 {
-    out.put(b"X\t12");
+    out.put_cut(b"X\t12");
     Field(place).put(out);
 }
 
 // Puts the fields of a value, or of the byte that is no sign.
 fn put_value(value: Result<u8, ValueFault>, out: &mut Writer<'_>)
-    ensures { Puts out.old out.new (value_text value) }
+    ensures { PutsCut out.old out.new (value_text value) }
 {
     match value {
         Ok(code) => put_code(code, out),
@@ -64,20 +64,20 @@ fn put_value(value: Result<u8, ValueFault>, out: &mut Writer<'_>)
 
 // Puts the fields of a longest front part: L, the part and its value.
 fn put_part(part: &[u8], code: u8, out: &mut Writer<'_>)
-    ensures { Puts out.old out.new (part_text part.now code) }
+    ensures { PutsCut out.old out.new (part_text part.now code) }
 {
-    out.put(b"L\t");
-    out.put(part);
+    out.put_cut(b"L\t");
+    out.put_cut(part);
     Field(usize::from(code)).put(out);
 }
 
 // The same, or X, the number of the refusal and - where there is none.
 fn put_longest(longest: Result<(&[u8], u8), LongestFault>, out: &mut Writer<'_>)
-    ensures { Puts out.old out.new (longest_text longest.entry) }
+    ensures { PutsCut out.old out.new (longest_text longest.entry) }
 {
     match longest {
         Ok((part, code)) => put_part(part, code, out),
-        Err(_) => out.put(b"X\t13\t-"),
+        Err(_) => out.put_cut(b"X\t13\t-"),
     }
 }
 
@@ -86,9 +86,9 @@ impl Written for Scan<'_> {
 
     fn put(&self, out: &mut Writer<'_>) {
         put_value(self.value, out);
-        out.put(b"\t");
+        out.put_cut(b"\t");
         put_longest(self.longest, out);
-        out.put(b"\n");
+        out.put_cut(b"\n");
     }
 }
 

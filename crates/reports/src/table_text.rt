@@ -1,7 +1,7 @@
 // The text of a table, line by line.
 ghost use Rattle.std.specs.Prelude.{◌<◌, ◌∷◌, length, decimal};
 ghost use Rattle.fields.specs.Pieces.{behind};
-ghost use Rattle.fields.specs.Writing.{Puts};
+ghost use Rattle.fields.specs.Writing.{PutsCut};
 ghost use Rattle.automata.specs.Shown.{sign_bytes};
 ghost use Rattle.drafts.specs.Words.{tabulate};
 ghost use Rattle.machines.specs.Tables.{count, next};
@@ -23,12 +23,12 @@ pub struct TableText<'a> {
 
 // Puts the first line.
 fn put_head(letter: KindLetter, grid: &Grid, out: &mut Writer<'_>)
-    ensures { Puts out.old out.new (ended_line (head_fields letter (sign_bytes grid.now.signs) (shown grid.now))) }
+    ensures { PutsCut out.old out.new (ended_line (head_fields letter (sign_bytes grid.now.signs) (shown grid.now))) }
 {
-    out.put(&[b'T', b'\t', letter.byte(), b'\t']);
-    out.put(grid.signs().as_slice());
+    out.put_cut(&[b'T', b'\t', letter.byte(), b'\t']);
+    out.put_cut(grid.signs().as_slice());
     Field(grid.state_count()).put(out);
-    out.put(b"\n");
+    out.put_cut(b"\n");
 }
 
 // Puts the next state by a letter, behind a tab. That there is such a state is asked here and below: a struct of grid and
@@ -36,7 +36,7 @@ fn put_head(letter: KindLetter, grid: &Grid, out: &mut Writer<'_>)
 fn put_cell(grid: &Grid, state: usize, letter: usize, out: &mut Writer<'_>)
     requires state { state < count (shown grid.now) }
     requires letter { letter < length (sign_bytes grid.now.signs) }
-    ensures { Puts out.old out.new (9 ∷ decimal (next (length (sign_bytes grid.now.signs)) (shown grid.now) state letter)) }
+    ensures { PutsCut out.old out.new (9 ∷ decimal (next (length (sign_bytes grid.now.signs)) (shown grid.now) state letter)) }
 {
     if let Some(next) = grid.next(state, letter) {
         Field(next).put(out);
@@ -46,7 +46,7 @@ fn put_cell(grid: &Grid, state: usize, letter: usize, out: &mut Writer<'_>)
 // Puts the next states of a state by letter.
 fn put_cells(grid: &Grid, state: usize, out: &mut Writer<'_>)
     requires { state < count (shown grid.now) }
-    ensures { Puts out.old out.new (behind 9 (tabulate (length (sign_bytes grid.now.signs)) (λ a. decimal (next (length (sign_bytes grid.now.signs)) (shown grid.now) state a)))) }
+    ensures { PutsCut out.old out.new (behind 9 (tabulate (length (sign_bytes grid.now.signs)) (λ a. decimal (next (length (sign_bytes grid.now.signs)) (shown grid.now) state a)))) }
 {
     // counted, as in `put_each` of texts, which is private there: a cell is asked for by its letter
     for letter in 0..grid.signs().len() {
@@ -57,13 +57,13 @@ fn put_cells(grid: &Grid, state: usize, out: &mut Writer<'_>)
 // Puts the line of a state.
 fn put_row(grid: &Grid, state: usize, out: &mut Writer<'_>)
     requires { state < count (shown grid.now) }
-    ensures { Puts out.old out.new (ended_line (row_fields (length (sign_bytes grid.now.signs)) (shown grid.now) state)) }
+    ensures { PutsCut out.old out.new (ended_line (row_fields (length (sign_bytes grid.now.signs)) (shown grid.now) state)) }
 {
     if let Some(value) = grid.value(state) {
         Number(state).put(out);
         Field(usize::from(value)).put(out);
         put_cells(grid, state, out);
-        out.put(b"\n");
+        out.put_cut(b"\n");
     }
 }
 

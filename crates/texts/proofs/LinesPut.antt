@@ -2,9 +2,9 @@
 use Rattle.std.proofs.Common.{◌≡◌, ℕ, zero, suc, ◌+◌, Bool, true, false, cond, List, [], ◌∷◌, ◌++◌, map, length, get_or, sym, refl, ap, ◌∙◌, subst, append_assoc, append-nil, add-one}
 use mathlib.Core.List.{map-append}
 use Rattle.fields.specs.Pieces.{ended}
-use Rattle.fields.specs.Writing.{Puts}
+use Rattle.fields.specs.Writing.{PutsCut}
 use Rattle.fields.specs.declared.writing.Writer.{Writer}
-use Rattle.fields.proofs.Placed.{puts_none, puts_then}
+use Rattle.fields.proofs.Placed.{cut_none, cut_then}
 use Rattle.drafts.specs.declared.calls.Call.{Call}
 use Rattle.drafts.specs.declared.calls.Call.TheVariants.{Grow}
 use Rattle.automata.specs.Drafts.{DraftModel, size}
@@ -14,8 +14,8 @@ use Rattle.texts.specs.Grammar.{line_of, head_fields, call_fields, written}
 use Rattle.texts.specs.Writing.{ended_line, call_lines, grow_call}
 
 -- the same text by another name
-pub puts_as : {a b : Writer} {s t : List ℕ} → s ≡ t → Puts a b s → Puts a b t
-puts_as {a} {b} q p = subst (λ (x : List ℕ). Puts a b x) q p
+pub puts_as : {a b : Writer} {s t : List ℕ} → s ≡ t → PutsCut a b s → PutsCut a b t
+puts_as {a} {b} q p = subst (λ (x : List ℕ). PutsCut a b x) q p
 
 pub ended-append : (b : ℕ) (ps qs : List (List ℕ)) → ended b (ps ++ qs) ≡ ended b ps ++ ended b qs
 ended-append b [] qs = refl
@@ -51,16 +51,16 @@ module _ (signs : List ℕ) where
   lines_each (suc n) f = lines-append (each_below n f) (f n) ∙ ap (λ (t : List ℕ). t ++ call_lines signs (f n)) (lines_each n f)
 
   -- the lines of each number put in order are the lines of all of them
-  pub puts_each : {a b : Writer} {k : ℕ} (n : ℕ) (f : ℕ → List Call) → k ≡ n → Puts a b (each_below k (λ i. call_lines signs (f i))) → Puts a b (call_lines signs (each_below n f))
+  pub puts_each : {a b : Writer} {k : ℕ} (n : ℕ) (f : ℕ → List Call) → k ≡ n → PutsCut a b (each_below k (λ i. call_lines signs (f i))) → PutsCut a b (call_lines signs (each_below n f))
   puts_each n f e p = puts_as (ap (λ (k : ℕ). each_below k (λ i. call_lines signs (f i))) e ∙ sym (lines_each n f)) p
 
   -- calls under a test
-  pub puts_when : {a b : Writer} (t : Bool) (cs : List Call) → t ≡ true → Puts a b (call_lines signs cs)
-      → Puts a b (call_lines signs (cond t cs []))
+  pub puts_when : {a b : Writer} (t : Bool) (cs : List Call) → t ≡ true → PutsCut a b (call_lines signs cs)
+      → PutsCut a b (call_lines signs (cond t cs []))
   puts_when t cs q p = puts_as (ap (λ (x : Bool). call_lines signs (cond x cs [])) (sym q)) p
 
-  pub puts_unless : (a : Writer) (t : Bool) (cs : List Call) → t ≡ false → Puts a a (call_lines signs (cond t cs []))
-  puts_unless a t cs q = puts_as (ap (λ (x : Bool). call_lines signs (cond x cs [])) (sym q)) (puts_none a)
+  pub puts_unless : (a : Writer) (t : Bool) (cs : List Call) → t ≡ false → PutsCut a a (call_lines signs (cond t cs []))
+  puts_unless a t cs q = puts_as (ap (λ (x : Bool). call_lines signs (cond x cs [])) (sym q)) (cut_none a)
 
 -- ---- the text of a draft
 
@@ -74,7 +74,7 @@ written-parts k d =
     ∙ sym (append_assoc (line_of (head_fields k d.signs)) (10 ∷ []) _)
 
 -- the four parts put one after another
-pub puts_draft : {a b c e f : Writer} (kind : KindLetter) (d : DraftModel) → Puts a b (ended_line (head_fields kind d.signs))
-    → Puts b c (call_lines d.signs (grow_calls d)) → Puts c e (call_lines d.signs (enter_calls d)) → Puts e f (call_lines d.signs (link_calls d))
-    → Puts a f (written kind d)
-puts_draft kind d p q r s = puts_as (sym (written-parts kind d)) (puts_then p (puts_then q (puts_then r s)))
+pub puts_draft : {a b c e f : Writer} (kind : KindLetter) (d : DraftModel) → PutsCut a b (ended_line (head_fields kind d.signs))
+    → PutsCut b c (call_lines d.signs (grow_calls d)) → PutsCut c e (call_lines d.signs (enter_calls d)) → PutsCut e f (call_lines d.signs (link_calls d))
+    → PutsCut a f (written kind d)
+puts_draft kind d p q r s = puts_as (sym (written-parts kind d)) (cut_then p (cut_then q (cut_then r s)))

@@ -3,7 +3,7 @@ use Rattle.std.specs.Prelude.{ℕ, ◌<◌, cond, List, [], ◌∷◌, ◌++◌,
 use Rattle.std.specs.Borrow.{MutBor}
 use Rattle.fields.specs.declared.writing.Writer.{Writer}
 use Rattle.fields.specs.Pieces.{ended}
-use Rattle.fields.specs.Writing.{Puts}
+use Rattle.fields.specs.Writing.{PutsCut}
 use Rattle.drafts.specs.declared.calls.Call.{Call}
 use Rattle.drafts.specs.declared.calls.Call.TheVariants.{Grow, Enter}
 use Rattle.automata.specs.Drafts.{DraftModel, size, letters}
@@ -43,4 +43,4 @@ refusal_line r = ended_line ((88 ∷ []) ∷ decimal r.number ∷ decimal r.line
 
 -- where a call goes from w to w' at the number i, it puts the text of i
 abbrev pub PutsAt : ℕ → (ℕ → MutBor Writer → MutBor Writer → Type 0) → (ℕ → List ℕ) → Type 0
-PutsAt count calls text = (i : ℕ) (w w' : MutBor Writer) → i < count → calls i w w' → Puts w.now w'.now (text i)
+PutsAt count calls text = (i : ℕ) (w w' : MutBor Writer) → i < count → calls i w w' → PutsCut w.now w'.now (text i)

@@ -1,5 +1,5 @@
 ghost use Rattle.std.specs.Prelude.{◌≡◌, ℕ, ◌<◌, List, [], ◌∷◌, length, decimal};
-ghost use Rattle.fields.specs.Writing.{Puts};
+ghost use Rattle.fields.specs.Writing.{PutsCut};
 ghost use Rattle.fields.specs.Written.{Wrote};
 ghost use Rattle.automata.specs.Drafts.{size, letters};
 ghost use Rattle.drafts.specs.Canonical.{each_below, grow_calls, enter_calls, link_calls};
@@ -20,37 +20,37 @@ use fields::written::{Field, Written};
 
 // Puts the first line: D, the kind letter and the signs.
 fn put_head(letter: KindLetter, signs: &[u8], out: &mut Writer<'_>)
-    ensures { Puts out.old out.new (ended_line (head_fields letter signs.now)) }
+    ensures { PutsCut out.old out.new (ended_line (head_fields letter signs.now)) }
 {
-    out.put(&[b'D', b'\t', letter.byte(), b'\t']);
-    out.put(signs);
-    out.put(b"\n");
+    out.put_cut(&[b'D', b'\t', letter.byte(), b'\t']);
+    out.put_cut(signs);
+    out.put_cut(b"\n");
 }
 
 // Puts the line of a record letter and a number.
 fn put_numbered(record: u8, number: usize, out: &mut Writer<'_>)
-    ensures { Puts out.old out.new (ended_line ((«record» ∷ []) ∷ decimal number ∷ [])) }
+    ensures { PutsCut out.old out.new (ended_line ((«record» ∷ []) ∷ decimal number ∷ [])) }
 {
-    out.put(&[record]);
+    out.put_cut(&[record]);
     Field(number).put(out);
-    out.put(b"\n");
+    out.put_cut(b"\n");
 }
 
 // Puts the line of an arrow: L, a state, a sign and a state.
 fn put_arrow_line(from: usize, sign: u8, to: usize, out: &mut Writer<'_>)
-    ensures { Puts out.old out.new (ended_line ((76 ∷ []) ∷ decimal from ∷ (sign ∷ []) ∷ decimal to ∷ [])) }
+    ensures { PutsCut out.old out.new (ended_line ((76 ∷ []) ∷ decimal from ∷ (sign ∷ []) ∷ decimal to ∷ [])) }
 {
-    out.put(b"L");
+    out.put_cut(b"L");
     Field(from).put(out);
-    out.put(&[b'\t', sign]);
+    out.put_cut(&[b'\t', sign]);
     Field(to).put(out);
-    out.put(b"\n");
+    out.put_cut(b"\n");
 }
 
 // Puts the line of a state.
 fn put_state(automaton: &Automaton, state: usize, out: &mut Writer<'_>)
     requires { state < size (shown automaton.now) }
-    ensures { Puts out.old out.new (call_lines (shown automaton.now).signs (grow_call (shown automaton.now) state)) }
+    ensures { PutsCut out.old out.new (call_lines (shown automaton.now).signs (grow_call (shown automaton.now) state)) }
 {
     if let Some(code) = automaton.code(state) {
         put_numbered(b'S', usize::from(code), out);
@@ -60,7 +60,7 @@ fn put_state(automaton: &Automaton, state: usize, out: &mut Writer<'_>)
 // Puts what `put` puts at each number below `count`, in order. Counted: each call takes its number.
 fn put_each<F: Fn(usize, &mut Writer<'_>)>(count: usize, out: &mut Writer<'_>, put: F)
     requires { (i : ℕ) (w : _) → i < count → F.pre put i w }
-    ensures { (text : ℕ → List ℕ) → PutsAt count (λ i w w'. F.post put i w tt w') text → Puts out.old out.new (each_below count text) }
+    ensures { (text : ℕ → List ℕ) → PutsAt count (λ i w w'. F.post put i w tt w') text → PutsCut out.old out.new (each_below count text) }
 {
     for i in 0..count {
         put(i, out);
@@ -69,7 +69,7 @@ fn put_each<F: Fn(usize, &mut Writer<'_>)>(count: usize, out: &mut Writer<'_>, p
 
 // Puts the lines of the states, by number.
 fn put_states(automaton: &Automaton, out: &mut Writer<'_>)
-    ensures { Puts out.old out.new (call_lines (shown automaton.now).signs (grow_calls (shown automaton.now))) }
+    ensures { PutsCut out.old out.new (call_lines (shown automaton.now).signs (grow_calls (shown automaton.now))) }
 {
     put_each(automaton.state_count(), out, |state, out| {
         put_state(automaton, state, out)
@@ -78,7 +78,7 @@ fn put_states(automaton: &Automaton, out: &mut Writer<'_>)
 
 // Puts the line of an entry state, or nothing where the state is none.
 fn put_entry(automaton: &Automaton, state: usize, out: &mut Writer<'_>)
-    ensures { Puts out.old out.new (call_lines (shown automaton.now).signs (enter_call (shown automaton.now) state)) }
+    ensures { PutsCut out.old out.new (call_lines (shown automaton.now).signs (enter_call (shown automaton.now) state)) }
 {
     if automaton.is_entry(state) {
         put_numbered(b'E', state, out);
@@ -87,7 +87,7 @@ fn put_entry(automaton: &Automaton, state: usize, out: &mut Writer<'_>)
 
 // Puts the lines of the entry states, by number.
 fn put_entries(automaton: &Automaton, out: &mut Writer<'_>)
-    ensures { Puts out.old out.new (call_lines (shown automaton.now).signs (enter_calls (shown automaton.now))) }
+    ensures { PutsCut out.old out.new (call_lines (shown automaton.now).signs (enter_calls (shown automaton.now))) }
 {
     put_each(automaton.state_count(), out, |state, out| {
         put_entry(automaton, state, out)
@@ -97,7 +97,7 @@ fn put_entries(automaton: &Automaton, out: &mut Writer<'_>)
 // Puts the line of an arrow, or nothing where there is none.
 fn put_arrow(automaton: &Automaton, arrow: Arrow, out: &mut Writer<'_>)
     requires { arrow.letter < letters (shown automaton.now) }
-    ensures { Puts out.old out.new (call_lines (shown automaton.now).signs (link_call (shown automaton.now) arrow.from arrow.letter arrow.to)) }
+    ensures { PutsCut out.old out.new (call_lines (shown automaton.now).signs (link_call (shown automaton.now) arrow.from arrow.letter arrow.to)) }
 {
     if automaton.has_arrow(arrow) {
         put_arrow_line(arrow.from, automaton.signs()[arrow.letter], arrow.to, out);
@@ -107,7 +107,7 @@ fn put_arrow(automaton: &Automaton, arrow: Arrow, out: &mut Writer<'_>)
 // Puts the lines of the arrows from a state with a letter, by to-state.
 fn put_ends(automaton: &Automaton, from: usize, letter: usize, out: &mut Writer<'_>)
     requires { letter < letters (shown automaton.now) }
-    ensures { Puts out.old out.new (call_lines (shown automaton.now).signs (links_by (shown automaton.now) from letter)) }
+    ensures { PutsCut out.old out.new (call_lines (shown automaton.now).signs (links_by (shown automaton.now) from letter)) }
 {
     put_each(automaton.state_count(), out, |to, out| {
         put_arrow(automaton, Arrow { from, letter, to }, out)
@@ -116,7 +116,7 @@ fn put_ends(automaton: &Automaton, from: usize, letter: usize, out: &mut Writer<
 
 // Puts the lines of the arrows from a state, by letter.
 fn put_arrows_from(automaton: &Automaton, from: usize, out: &mut Writer<'_>)
-    ensures { Puts out.old out.new (call_lines (shown automaton.now).signs (links_from (shown automaton.now) from)) }
+    ensures { PutsCut out.old out.new (call_lines (shown automaton.now).signs (links_from (shown automaton.now) from)) }
 {
     put_each(automaton.signs().len(), out, |letter, out| {
         put_ends(automaton, from, letter, out)
@@ -125,7 +125,7 @@ fn put_arrows_from(automaton: &Automaton, from: usize, out: &mut Writer<'_>)
 
 // Puts the lines of the arrows, by from-state.
 fn put_arrows(automaton: &Automaton, out: &mut Writer<'_>)
-    ensures { Puts out.old out.new (call_lines (shown automaton.now).signs (link_calls (shown automaton.now))) }
+    ensures { PutsCut out.old out.new (call_lines (shown automaton.now).signs (link_calls (shown automaton.now))) }
 {
     put_each(automaton.state_count(), out, |from, out| {
         put_arrows_from(automaton, from, out)
@@ -164,12 +164,12 @@ impl Written for Refusal {
     ghost text = { refusal_line };
 
     fn put(&self, out: &mut Writer<'_>) {
-        out.put(b"X");
+        out.put_cut(b"X");
         Field(usize::from(self.number)).put(out);
         Field(self.line).put(out);
         Field(usize::from(self.field)).put(out);
         Field(usize::from(self.inner)).put(out);
-        out.put(b"\n");
+        out.put_cut(b"\n");
     }
 }
 

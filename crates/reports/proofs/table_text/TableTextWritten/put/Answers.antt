@@ -5,7 +5,7 @@ use Rattle.drafts.specs.Words.{tabulate}
 use Rattle.machines.specs.Tables.{count}
 use Rattle.tables.specs.Shown.{shown}
 use Rattle.texts.specs.Grammar.{line_of}
-use Rattle.fields.proofs.Placed.{puts_then}
+use Rattle.fields.proofs.Placed.{cut_then}
 use Rattle.texts.proofs.LinesPut.{puts_as}
 use Rattle.reports.specs.Reports.{head_fields, row_fields}
 use Rattle.reports.proofs.Adding.{puts_line}
@@ -23,4 +23,4 @@ returns c =
     let lines = λ (k : ℕ). ended 10 (tabulate k (λ i. line_of (row_fields (length (sign_bytes grid.signs)) (shown grid) i))) in
     let all : c.loop-state.state ≡ count (shown grid) = omega arith in
     puts_as (append_assoc (line_of head) (10 ∷ []) (lines (count (shown grid))))
-    (puts_then c.put_head.ensures (puts_as (ap lines all) c.loop-state.invariant))
+    (cut_then c.put_head.ensures (puts_as (ap lines all) c.loop-state.invariant))
