@@ -8,6 +8,7 @@ ghost use Rattle.texts.specs.Writing.{refusal_line};
 use crate::any::AnyDraft;
 use crate::faults::Refusal;
 use crate::reading::read_draft;
+use crate::writing::{draft_len, refusal_len, write_draft, write_refusal};
 use fields::written::Written;
 use std::alloc::{AllocError, Global};
 
@@ -20,18 +21,22 @@ pub fn written_text<T: Written>(heap: Global, item: &T) -> Result<Vec<u8>, Alloc
     Ok(text)
 }
 
-// The text of a draft, in memory of its own.
+// The text of a draft, in memory of its own: made by `write_draft`, as that of a refusal by `write_refusal`.
 pub fn draft_text(heap: Global, draft: &AnyDraft) -> Result<Vec<u8>, AllocError>
     ensures { IfOk result (λ v. v.items ≡ written (letter_of_draft draft.now) (model_of draft.now)) }
 {
-    written_text(heap, draft)
+    let mut text = vec![in heap; 0u8; draft_len(draft)]?;
+    let _ = write_draft(draft, text.as_mut_slice());
+    Ok(text)
 }
 
 // The line of a refusal, in memory of its own.
 pub fn refusal_text(heap: Global, refusal: Refusal) -> Result<Vec<u8>, AllocError>
     ensures { IfOk result (λ v. v.items ≡ refusal_line refusal) }
 {
-    written_text(heap, &refusal)
+    let mut text = vec![in heap; 0u8; refusal_len(refusal)]?;
+    let _ = write_refusal(refusal, text.as_mut_slice());
+    Ok(text)
 }
 
 // What `tidy` prints of a text: the draft as it is written, or the line of the refusal.
