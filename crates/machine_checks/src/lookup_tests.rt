@@ -4,9 +4,13 @@ use kinds::yes_no::Y;
 use lookup::faults::{LongestFault, ValueFault};
 use lookup::longest::longest;
 use lookup::value::value;
+use reports::appending::add;
+use reports::scan_text::add_scan;
+use reports::table_text::TableText;
 use std::test::Fail;
 use tables::grid::laying::{LayFault, lay};
 use tables::table::Table;
+use texts::letters::KindLetter;
 
 // Two arms that end in different values.
 fn arms() -> Result<Table<R>, LayFault> {
@@ -44,6 +48,31 @@ fn an_empty_front_part_counts(rt: HostRuntime) -> Result<(), Fail> {
     assert!(rt; front(&table, b"aaa") == Some((b"", 5)));
     assert!(rt; front(&table, b"") == Some((b"", 5)));
     assert!(rt; front(&table, b"?") == Some((b"", 5)));
+    Ok(())
+}
+
+#[test]
+fn a_table_is_added(rt: HostRuntime) -> Result<(), Fail> {
+    let table = arms()?;
+    let mut out = Vec::from_slice(rt.alloc(), b"#")?;
+    let text = TableText {
+        letter: KindLetter::R,
+        grid: table.grid(),
+    };
+    add(&mut out, &text)?;
+    let told: &[u8] = b"#T\tR\tab\t5\n0\t0\t1\t2\n1\t3\t1\t3\n2\t0\t4\t3\n3\t0\t3\t3\n4\t7\t4\t3\n";
+    assert!(rt; out.as_slice() == told);
+    Ok(())
+}
+
+#[test]
+fn entries_are_added(rt: HostRuntime) -> Result<(), Fail> {
+    let table = arms()?;
+    let mut out = Vec::from_slice(rt.alloc(), b"#")?;
+    add_scan(&mut out, &table, b"aab")?;
+    add_scan(&mut out, &table, b"b+")?;
+    let told: &[u8] = b"#V\t0\t-\tL\taa\t3\nX\t12\t1\tX\t13\t-\n";
+    assert!(rt; out.as_slice() == told);
     Ok(())
 }
 
