@@ -126,6 +126,15 @@ cut_part {a} {b} t n e p kept = ⊎_elim none some (cases_lt (length a.out.now) 
     some : a.len ≤ length a.out.now → b.out.now ≡ take (length a.out.now) (paste a.out.now a.len t (length t))
     some l = p.fits (omega (arith, k)) ∙ (ap (λ (m : ℕ). paste a.out.now a.len (take n t) m) k ∙ part a.out.now a.len t n l e)
 
+-- t put whole, where there is room for all of it or for none
+pub cut_whole : {a b : Writer} (t : List ℕ) → Puts a b t → (length a.out.now < a.len + length t → b.out.now ≡ a.out.now)
+    → (length a.out.now < a.len + length t → length a.out.now ≤ a.len) → PutsCut a b t
+cut_whole {a} {b} t p kept none = record {
+  loan = p.loan;
+  place = p.place;
+  bytes = ⊎_elim (λ l. kept l ∙ sym (past a.out.now a.len t (none l))) (λ g. p.fits g ∙ sym (whole a.out.now a.len t g)) (cases_lt (length a.out.now) (a.len + length t));
+}
+
 pub cut_none : (w : Writer) → PutsCut w w []
 cut_none w = record {
   loan = refl;

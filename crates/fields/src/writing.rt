@@ -57,8 +57,13 @@ impl<'a> Writer<'a> {
     {
         let start = self.len;
         let room = self.out.len().saturating_sub(start);
-        self.put(&piece[..piece.len().min(room)]);
-        self.len = start.saturating_add(piece.len());
+        // mostly there is room for all of it, or, where a text is measured, for none
+        if piece.len() <= room || room == 0 {
+            self.put(piece);
+        } else {
+            self.put(&piece[..room]);
+            self.len = start.saturating_add(piece.len());
+        }
     }
 
     // Puts the decimal digits of `n`, as `put` does.
