@@ -1,5 +1,5 @@
 -- The codes of a colouring that is made by a function, and such a colouring made code by code.
-use Rattle.std.proofs.Common.{◌≡◌, ℕ, ◌+◌, ◌<◌, ◌≤◌, cond, ltb, List, length, get_or, set, sym, ap, ◌∙◌, inl, inr, arith, length-set}
+use Rattle.std.proofs.Common.{◌≡◌, ℕ, ◌+◌, ◌<◌, ◌≤◌, cond, ltb, List, length, get_or, set, min, sym, ap, ◌∙◌, inl, inr, arith, length-set}
 use lib.ListN.{length-replicate}
 use Rattle.std.proofs.lemmas.List.{get_or-set_same, get_or-set_other, get_or-replicate}
 use Rattle.std.proofs.lemmas.Bool.{cases_lt, cases_eq, lt-ltb, le-ltb, cond-true, cond-false}
@@ -8,7 +8,7 @@ use Rattle.drafts.proofs.Tabulates.{length-tabulate, get_d_tabulate, get_or_tabu
 use Rattle.views.specs.declared.colouring.Colouring.{Colouring}
 use Rattle.views.specs.Colourings.{plain, coloured}
 
-abbrev made : List ℕ → Colouring
+abbrev pub made : List ℕ → Colouring
 made cs = record { codes = cs }
 
 module _ (K : KindModel) (n : ℕ) (f : ℕ → ℕ) where
@@ -85,4 +85,17 @@ colour_next K n f x r s so here e = coloured_is K (n + 1) f r long at
               ∙ ap (λ (c : Colouring). get_or c.codes p K.none) so
               ∙ coloured-at K n f p K.none l
               ∙ ap (λ b. cond b (f p) K.none) (test p ne)
+        ]
+
+-- there is no place past the last
+pub coloured_cut : (K : KindModel) (n : ℕ) (f : ℕ → ℕ) → coloured K (min n 128) f ≡ coloured K n f
+coloured_cut K n f =
+    coloured_is K n f (coloured K (min n 128) f) (coloured-length K (min n 128) f)
+    (λ p l. coloured-at K (min n 128) f p K.none l ∙ ap (λ b. cond b (f p) K.none) (test p l))
+  where
+    test : (p : ℕ) → p < 128 → ltb p (min n 128) ≡ ltb p n
+    test p l =
+        elim (cases_lt p n) [
+          | inl a ↦ lt-ltb p (min n 128) (omega arith) ∙ sym (lt-ltb p n a)
+          | inr g ↦ le-ltb p (min n 128) (omega arith) ∙ sym (le-ltb p n g)
         ]

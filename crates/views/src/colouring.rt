@@ -22,12 +22,12 @@ impl Colouring {
         requires { F.IsAlwaysCallable code }
         ensures { (f : ℕ → ℕ) → ((p r : ℕ) → F.post code p r → r ≡ f p) → result ≡ coloured K.model count f }
     {
-        let mut colouring = Colouring::plain(K::none());
-        // counted, code by code: `array::from_fn` would go through all 128 places
-        for p in 0..count {
-            colouring = colouring.put(p, code(p));
+        let mut codes = [K::none(); 128];
+        // counted, and in place: `array::from_fn` would go through all 128 places, and `put` would copy them
+        for p in 0..count.min(128) {
+            codes[p] = code(p);
         }
-        colouring
+        Colouring { codes }
     }
 
     // The code at a place; from place 128 on it is none.
