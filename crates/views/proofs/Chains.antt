@@ -1,5 +1,5 @@
 -- What a chain over the numbers below a bound makes of those that pass a test: filtered, mapped and folded.
-use Rattle.std.proofs.Common.{◌≡◌, ℕ, ◌+◌, Bool, true, false, cond, [], ◌∷◌, ◌++◌, map, sym, refl, ap, ◌∙◌, zero-add, arith}
+use Rattle.std.proofs.Common.{◌≡◌, ℕ, ◌+◌, List, Bool, true, false, cond, [], ◌∷◌, ◌++◌, map, sym, refl, ap, ◌∙◌, zero-add, arith}
 use mathlib.Core.List.{map-append, map-id}
 use Rattle.std.specs.List.{fold, filter, range_with_len}
 use Rattle.std.specs.Iterator.Runs.{Run}
@@ -35,3 +35,12 @@ module _ {A : Type 0} (op : A → A → A) (none : A) (s : ℕ → Bool) (f : �
       ∙ ap (fold op none) (map-append f (filter s (range_with_len 0 n)) (filter s (n ∷ [])))
       ∙ fold-append op none (map f (filter s (range_with_len 0 n))) (map f (filter s (n ∷ [])))
       ∙ last (chain n) n (s n)
+
+  led : (x : A) (p : ℕ) (l : List ℕ) (b : Bool) → fold op (cond b (op x (f p)) x) (map f (filter s l)) ≡ fold op x (map f (cond b (p ∷ filter s l) (filter s l)))
+  led x p l true = refl
+  led x p l false = refl
+
+  -- a fold that tests each number itself makes the same
+  pub chain_in_one : (x : A) (l : List ℕ) → fold (λ y p. cond (s p) (op y (f p)) y) x l ≡ fold op x (map f (filter s l))
+  chain_in_one x [] = refl
+  chain_in_one x (p ∷ l) = chain_in_one (cond (s p) (op x (f p)) x) l ∙ led x p l (s p)

@@ -24,7 +24,8 @@ fn join_ends<K: Kind>(
 {
     let ends = automaton.ends(from, letter);
     join_over::<K, _, _>(
-        automaton.state_count(),
+        // there are no more anyway; where this is said, the compiler need not compare each with 32
+        automaton.state_count().min(32),
         |q| ends.has(q),
         |q| colouring.code::<K>(q),
     )
