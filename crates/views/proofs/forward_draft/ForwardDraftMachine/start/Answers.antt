@@ -1,11 +1,7 @@
-use Rattle.std.proofs.Common.{ap, ◌∙◌}
-use Rattle.automata.specs.declared.automaton.Automaton.{Automaton}
-use Rattle.automata.specs.Drafts.{size}
-use Rattle.automata.specs.Shown.{shown}
-use Rattle.views.specs.Those.{those, reached_set}
-use Rattle.views.proofs.Reaches.{entries_are}
+use Rattle.std.proofs.Common.{rules}
+use Rattle.views.proofs.Reaches.{started}
 use Rattle.views.proofs.forward_draft.ForwardDraftMachine.start.Goals as goal
 
+-- by members: whatever set has those of the entry states is the right one
 pub returns : goal.returns
-returns g c =
-    ap reached_set (entries_are c.automaton-automaton.result.now c.entries.result c.entries.ensures ∙ ap (λ (d : Automaton). those (size (shown d)) (shown d).entry) c.automaton-automaton.ensures)
+returns g c = started c.args.self.now.draft.now.automaton _ (λ p. Prim.search rules)
